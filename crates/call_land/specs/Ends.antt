@@ -344,7 +344,8 @@ module _ (p : Params) (off : List ℕ) (k : Disk) (m : Memory) (d s n : ℕ) (no
 
       abbrev q₀ : Plan
       q₀ = mk_plan (w ∷ ss) (Landed (writes_in m.state i₀))
-          (mk_memory (cond b₀ (set_closed (free_stripe st₂ i₀)) (free_stripe st₂ i₀)) (table_of p (store_view_of w (seen p off k)) g₀ st₂ i₀ m.addresses) (shown_table p (seen p off k) m d s)
+          (mk_memory (cond b₀ (set_closed (free_stripe st₂ i₀)) (free_stripe st₂ i₀)) (table_of p (store_view_of w (seen p off k)) g₀ st₂ i₀ m.addresses)
+          (shown_table p (seen p off k) m d s)
           m.inflight) []
 
       view₁ : seen p off k₁ ≡ store_view_of w (seen p off k)

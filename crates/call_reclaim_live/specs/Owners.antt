@@ -84,7 +84,8 @@ module _ (p : Params) (r : Ranged p) (v : View) (rows : List ℕ) (kept : List B
         go (no! e) = ap (λ (b : Bool). b && sealed_in p v 0 (row_seg rows g)) e ∙ sym (ap (λ (b : Bool). b && sealed_in p v 0 (seg_at p v 0 g)) (sym (ke.1 g h) ∙ e))
 
   -- two numbers that have one zone are one
-  one_number : (d g k : ℕ) → d < p.N → g < p.Z → k < p.Z → get_or kept g false ≡ true → get_or kept k false ≡ true → zone_on (seg_at p v 0 k) d ≡ zone_on (seg_at p v 0 g) d → k ≡ g
+  one_number : (d g k : ℕ) → d < p.N → g < p.Z → k < p.Z → get_or kept g false ≡ true → get_or kept k false ≡ true
+      → zone_on (seg_at p v 0 k) d ≡ zone_on (seg_at p v 0 g) d → k ≡ g
   one_number d g k hd hg hk eg ek e =
       let here = zero_here p r in
       let leads! : (i : ℕ) (h : i < p.Z) → get_or kept i false ≡ true → zone_on (seg_at p v 0 i) (low_drive p 0) ≡ i =

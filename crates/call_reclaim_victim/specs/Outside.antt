@@ -41,7 +41,8 @@ pub place_fits : (tb : List ℕ) (a : ℕ) → 4 * a + 4 ≤ length tb → ((i :
 unfolding place_at_of
 place_fits tb a h bytes =
     let m : length (part (4 * a) 4 tb) ≡ 4 = length_part (4 * a) 4 tb h in
-    let e = be_of-lt (part (4 * a) 4 tb) (λ k l. let s : get_or (part (4 * a) 4 tb) k 0 ≡ get_or tb (4 * a + k) 0 = get_d_part (4 * a) 4 tb k (omega arith) in omega (arith, s, bytes (4 * a + k))) in
+    let e = be_of-lt (part (4 * a) 4 tb) (λ k l. let s : get_or (part (4 * a) 4 tb) k 0 ≡ get_or tb (4 * a + k) 0 = get_d_part (4 * a) 4 tb k (omega arith) in omega
+    (arith, s, bytes (4 * a + k))) in
     subst (λ (x : ℕ). be_of (part (4 * a) 4 tb) < 256 ^ x) m e
 
 -- ---- lists with members

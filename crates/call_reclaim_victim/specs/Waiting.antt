@@ -162,7 +162,8 @@ module _ (p : Params) (v : View) (st : State) (h : Seg) (tb : List ℕ) where
       live_split p tb (in_seg p h) a b k ∙ ap (λ (x : List ℕ). live a ++ x) (keep_nobody (is_live_in p tb (in_seg p h)) a (b - a) (λ q x y. miss q x (omega arith))) ∙ append-nil (live a) in
       record { first = w.first ∙ ap (λ (l : List ℕ). first_or never_place (keep free l)) (sym e); odd = w.odd ∙ ap (odd_zone p) (sym e) }
 
-  pub waiting-step : (q : ℕ) (i r : Idle) → is_live_in p tb (in_seg p h) q ≡ true → q < never_place → IdleBelow p v st h tb q i → IdleStepped p v st h i q r → IdleBelow p v st h tb (q + 1) r
+  pub waiting-step : (q : ℕ) (i r : Idle) → is_live_in p tb (in_seg p h) q ≡ true → q < never_place → IdleBelow p v st h tb q i → IdleStepped p v st h i q r
+      → IdleBelow p v st h tb (q + 1) r
   waiting-step q i r e l w s =
       let a : List ℕ = live q in
       let m : live (q + 1) ≡ a ++ (q ∷ []) = live_more p tb (in_seg p h) q e in

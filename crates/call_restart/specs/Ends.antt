@@ -68,7 +68,8 @@ module _ (p : Params) (off : List ℕ) (k : Disk) (m : Memory) (d n : ℕ) where
   -- 01, Store count: a refusal changes nothing
   pub restart_refused : (a : Answer) → first_refusal (front_checks p (lent_ok_of p off k m) (seen p off k) d) ≡ some a → mk_after a k m [] ≡ call_disk p off k m (restart d n)
   unfolding call_disk call_on store_count lent_block verdict restart_verdict
-  restart_refused a e = sym (call_refused p (store_disk p) n k m [] checks! (restart_plan p (seen p off k) d segs m.inflight) a (restart_front_refused p (lent_ok_of p off k m) (seen p off k) d segs a e))
+  restart_refused a e = sym (call_refused p (store_disk p) n k m [] checks! (restart_plan p (seen p off k) d segs m.inflight) a
+      (restart_front_refused p (lent_ok_of p off k m) (seen p off k) d segs a e))
 
   -- past the first checks
   pub restart_recovers : Fronted p (lent_ok_of p off k m) (seen p off k) d (segments p (seen p off k) (named d)) → recovered p off k m (named d) n ≡ call_disk p off k m (restart d n)
@@ -93,7 +94,8 @@ module _ (p : Params) (off : List ℕ) (k : Disk) (m : Memory) (gone n : ℕ) wh
   recovered-cut e h = sym (call_cut p (store_disk p) n k m [] (first_refusal (rest_checks p (seen p off k) gone gs)) (restart_due p (seen p off k) gone gs m.inflight) e h)
 
   -- all of them
-  pub recovered_done : first_refusal (rest_checks p (seen p off k) gone (segments p (seen p off k) gone)) ≡ none → length (restart_stores p (seen p off k) gone (segments p (seen p off k) gone)) ≤ n
+  pub recovered_done : first_refusal (rest_checks p (seen p off k) gone (segments p (seen p off k) gone)) ≡ none
+      → length (restart_stores p (seen p off k) gone (segments p (seen p off k) gone)) ≤ n
       → mk_after (Restarted (report_of p gone (segments p (seen p off k) gone))) (store_all (store_disk p) (take n (restart_stores p (seen p off k) gone (segments p (seen p off k) gone))) k)
       (restart_memory p (store_all store_view_of (restart_stores p (seen p off k) gone (segments p (seen p off k) gone)) (seen p off k)) gone m.inflight) [] ≡ recovered p off k m gone n
   unfolding recovered restart_due

@@ -1,7 +1,8 @@
 -- Footer blocks and the spares that they are made from, by bytes (01, What a zone holds). Assumes nothing.
 use Rattle.std.specs.Prelude.{◌≡◌, get_or, take}
 use Rattle.std.proofs.Math.Path.{refl, sym, ap, subst}
-use Rattle.std.proofs.Common.{ap₂, ◌∙◌, zero-add, add-suc, mul_comm, zero-mul, mul-le-mul_right, le_trans, le-div_iff_mul-le, arith, length-append, length-take, length-drop, get_or-take, get_or-drop, take-suc, take_all, add-one}
+use Rattle.std.proofs.Common.{ap₂, ◌∙◌, zero-add, add-suc, mul_comm, zero-mul, mul-le-mul_right, le_trans, le-div_iff_mul-le, arith, length-append, length-take}
+use Rattle.std.proofs.Common.{length-drop, get_or-take, get_or-drop, take-suc, take_all, add-one}
 use mathlib.Core.List.{List, [], ◌++◌, map}
 use Prim.Native.Nat.{ℕ, zero, suc, ◌+◌, ◌-◌, ◌*◌, min, ◌≤◌, ◌<◌}
 use Rattle.std.proofs.Math.Nat.{suc-mul, sub-zero, zero-sub, suc-sub-suc}

@@ -159,7 +159,8 @@ module _ (p : Params) (v : View) (gone : ℕ) (here : Here p gone) where
           let (h, m, e) = any_in f (left_by1 p v gone) q in
           let (s, i, b) = left_for h m in
           let a : eqb (header_serial p (header_at v low h)) c ≡ true = and_right (not (same_seg h (seg_for p v gone r))) (eqb (header_serial p (header_at v low h)) c) e in
-          let n : same_seg h (seg_for p v gone r) ≡ false = not-true (same_seg h (seg_for p v gone r)) (and_left (not (same_seg h (seg_for p v gone r))) (eqb (header_serial p (header_at v low h)) c) e) in
+          let n : same_seg h (seg_for p v gone r) ≡ false = not-true (same_seg h (seg_for p v gone r))
+          (and_left (not (same_seg h (seg_for p v gone r))) (eqb (header_serial p (header_at v low h)) c) e) in
           let x : s ≡ c = sym (head_serial s (all_borne_on p v gone s b low here.0 here.1)) ∙ ap (λ (g : Seg). header_serial p (header_at v low g)) (sym i)
           ∙ eqb-true (header_serial p (header_at v low h)) c a in
           and_both (not (eqb c r)) (borne_by_all p v gone c) (ap not (ne_eqb c r (λ y. seg_false h (seg_for p v gone r) n (i ∙ ap (seg_for p v gone) (x ∙ y)))))

@@ -2,7 +2,8 @@
 #![tactic(auto)]
 
 ghost use Rattle.std.specs.Prelude.{◌≡◌, true, ◌||◌, List, [], ◌∷◌, ℕ, ◌+◌, ◌≤◌, ◌<◌, min, eqb, length};
-ghost use Rattle.spec.specs.Drives.{view_of, mk_disk, pointer_of, set_pointer, store_disk, is_good, good_count, empty_count, new_seg, zone_on, sealed_in, zero_spare, header_stores, reset_stores, zones_in};
+ghost use Rattle.spec.specs.Drives.{view_of, mk_disk, pointer_of, set_pointer, store_disk, is_good, good_count, empty_count, new_seg, zone_on, sealed_in, zero_spare};
+ghost use Rattle.spec.specs.Drives.{header_stores, reset_stores, zones_in};
 ghost use Rattle.spec.specs.Drives.Store.{put};
 ghost use Rattle.spec.specs.Layout.{header_block};
 ghost use Rattle.spec.specs.Lists.{below, keep, tally, first_or, is_in};

@@ -1,6 +1,7 @@
 -- Big-endian numbers, over the width (01, The array: big-endian bytes). Assumes nothing.
 use Rattle.std.specs.Prelude.{◌≡◌, refl, List, [], ◌∷◌, ◌++◌, ℕ, zero, suc, ◌+◌, ◌-◌, ◌*◌, ◌/◌, ◌%◌, ◌^◌, ◌≤◌, ◌<◌, length, get_or, set}
-use Rattle.std.proofs.Common.{sym, ap, ap₂, ◌∙◌, subst, append-nil, append_assoc, arith, add-one, length-append, take-append-drop, lit<, add-zero, add-suc, pow-suc, add_assoc, mul-one, add-mul, mul_assoc, mod-lt, div-add-mod', div-one, div-lt_iff_lt-mul}
+use Rattle.std.proofs.Common.{sym, ap, ap₂, ◌∙◌, subst, append-nil, append_assoc, arith, add-one, length-append, take-append-drop, lit<, add-zero, add-suc}
+use Rattle.std.proofs.Common.{pow-suc, add_assoc, mul-one, add-mul, mul_assoc, mod-lt, div-add-mod', div-one, div-lt_iff_lt-mul}
 use Rattle.std.proofs.Math.Decide.{dec_lt}
 use Rattle.std.proofs.lemmas.List.{get_or_at}
 use Rattle.std.proofs.Math.ListN.{get_or-eq_default, get_or-append}

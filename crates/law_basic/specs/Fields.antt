@@ -249,7 +249,8 @@ module _ (p : Params) (d : ℕ) (zs : List ℕ) (r c : ℕ) (many : length zs �
 
   -- field i behind the first seven
   field-behind : (i : ℕ) → get_or fs (7 + i) no_field ≡ get_or (map (field 4) zs ++ tail_fields p r c) i no_field
-  field-behind i = ap (λ (l : List Field). get_or l (7 + i) no_field) (header_fields_are p d zs r c) ∙ get_or-append-add (head_fields (header_len p) p d) (map (field 4) zs ++ tail_fields p r c) i no_field
+  field-behind i = ap (λ (l : List Field). get_or l (7 + i) no_field) (header_fields_are p d zs r c)
+      ∙ get_or-append-add (head_fields (header_len p) p d) (map (field 4) zs ++ tail_fields p r c) i no_field
 
   field_tail : (i : ℕ) → get_or fs (7 + (p.N + i)) no_field ≡ get_or (tail_fields p r c) i no_field
   field_tail i =

@@ -1,6 +1,8 @@
 -- Laws of the list definitions: one step at the front and at the end, lengths, elements. Assumes nothing.
-use Rattle.std.specs.Prelude.{◌≡◌, refl, map, List, [], ◌∷◌, ◌++◌, Bool, true, false, not, ◌&&◌, ◌||◌, ℕ, zero, suc, ◌+◌, ◌-◌, ◌*◌, min, max, ◌≤◌, ◌<◌, length, get_or, take, drop, set, replicate, ltb, eqb}
-use Rattle.std.proofs.Common.{sym, ap₂, ◌∙◌, subst, append-nil, append_assoc, arith, add-one, drop-cons, drop-drop, length-append, drop_of_length-le, add-zero, zero-add, suc-add, add_assoc, zero-mul, suc-mul, add-sub_of_le, eqb-true, lt-ltb, eq-eqb, ne_eqb}
+use Rattle.std.specs.Prelude.{◌≡◌, refl, map, List, [], ◌∷◌, ◌++◌, Bool, true, false, not, ◌&&◌, ◌||◌, ℕ, zero, suc, ◌+◌, ◌-◌, ◌*◌}
+use Rattle.std.specs.Prelude.{min, max, ◌≤◌, ◌<◌, length, get_or, take, drop, set, replicate, ltb, eqb}
+use Rattle.std.proofs.Common.{sym, ap₂, ◌∙◌, subst, append-nil, append_assoc, arith, add-one, drop-cons, drop-drop, length-append, drop_of_length-le, add-zero}
+use Rattle.std.proofs.Common.{zero-add, suc-add, add_assoc, zero-mul, suc-mul, add-sub_of_le, eqb-true, lt-ltb, eq-eqb, ne_eqb}
 use Rattle.std.proofs.Math.Path.{ap}
 use Rattle.std.proofs.lemmas.List.{length-replicate, replicate-append-replicate}
 use Rattle.std.proofs.Math.Dec.{leb-suc-suc}

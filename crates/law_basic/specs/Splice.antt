@@ -1,6 +1,7 @@
 -- Laws of parts and splices (01, The array: a block is a part of the image). Assumes nothing.
 use Rattle.std.specs.Prelude.{◌≡◌, refl, List, [], ◌∷◌, ◌++◌, ℕ, suc, ◌+◌, ◌-◌, ◌≤◌, ◌<◌, take, set}
-use Rattle.std.proofs.Common.{sym, ap₂, ◌∙◌, append-nil, append_assoc, arith, add-one, take_all, take-suc, drop-cons, take-suc-set, drop-drop, take-add, ext_get_or, take_at, length-append, take-append-drop, length-drop, drop_of_length-le, add-zero, zero-add, suc-add, add_assoc, le_of_eq}
+use Rattle.std.proofs.Common.{sym, ap₂, ◌∙◌, append-nil, append_assoc, arith, add-one, take_all, take-suc, drop-cons, take-suc-set, drop-drop, take-add}
+use Rattle.std.proofs.Common.{ext_get_or, take_at, length-append, take-append-drop, length-drop, drop_of_length-le, add-zero, zero-add, suc-add, add_assoc, le_of_eq}
 use Rattle.std.proofs.Math.Path.{ap}
 use Rattle.std.proofs.Math.Decide.{dec_lt}
 use Rattle.std.proofs.Math.Seq.{append_snoc, drop-append-add, get_or-append-add, take-set-lt, get_or-take, get_or-drop}

@@ -91,7 +91,8 @@ byte_xors (x ∷ s) [] i a b = absurd (let z : ⊥ = omega arith in z)
 byte_xors (x ∷ s) (y ∷ t) zero a b = refl
 byte_xors (x ∷ s) (y ∷ t) (suc i) a b = byte_xors s t i (omega arith) (omega arith)
 
-stripe_column : (n i : ℕ) (f : ℕ → List ℕ) (l : List ℕ) → Each (λ (e : ℕ). length (f e) ≡ n) l → i < n → get_or (parity n (map f l)) i 0 ≡ xor_all (map (λ e. get_or (f e) i 0) l)
+stripe_column : (n i : ℕ) (f : ℕ → List ℕ) (l : List ℕ) → Each (λ (e : ℕ). length (f e) ≡ n) l → i < n
+    → get_or (parity n (map f l)) i 0 ≡ xor_all (map (λ e. get_or (f e) i 0) l)
 unfolding parity xor_all
 stripe_column n i f [] h k = get_or-replicate n i 0 0 k
 stripe_column n i f (e ∷ l) h k =

@@ -231,13 +231,15 @@ module _ (p : Params) (v : View) (gone : ℕ) (acc : Accepted p v gone) where
   copied-low g m = leb-false (segment_of p v gone g).serial (segment_of p v gone g).copied (faults_apart g m).no_serial_fault
 
   -- the footers of an unsealed segment
-  pub open_footers : (g : Seg) (d : ℕ) → In g (remaining p v gone) → d < p.N → is_in gone d ≡ false → sealed_in p v gone g ≡ false → footer_fault_in p (zone_at v d (zone_on g d)) ≡ false
+  pub open_footers : (g : Seg) (d : ℕ) → In g (remaining p v gone) → d < p.N → is_in gone d ≡ false → sealed_in p v gone g ≡ false
+      → footer_fault_in p (zone_at v d (zone_on g d)) ≡ false
   open_footers g d m hd hq ns =
       ap (footer_fault_in p) (sym (zone_by p v gone g d hd))
       ∙ none_in (λ e. footer_fault_in p (get_or (segment_of p v gone g).zones_by_holds e no_zone)) (present p gone) (as! (faults_apart g m).no_footer_fault) d (in_present p gone d hd hq)
     where
       as! : footer_fault p gone (segment_of p v gone g) ≡ false → any (λ e. footer_fault_in p (get_or (segment_of p v gone g).zones_by_holds e no_zone)) (present p gone) ≡ false
-      as! e = unfold footer_fault in (sym (ap (λ (b : Bool). not b && any (λ e. footer_fault_in p (get_or (segment_of p v gone g).zones_by_holds e no_zone)) (present p gone)) (full_is p v gone g ∙ ns)) ∙ e)
+      as! e = unfold footer_fault in (sym (ap (λ (b : Bool). not b
+          && any (λ e. footer_fault_in p (get_or (segment_of p v gone g).zones_by_holds e no_zone)) (present p gone)) (full_is p v gone g ∙ ns)) ∙ e)
 
   -- one unsealed segment at most
   pub unsealed_once : (g h : Seg) → In g (remaining p v gone) → In h (remaining p v gone) → sealed_in p v gone g ≡ false → sealed_in p v gone h ≡ false → g ≡ h
@@ -273,7 +275,8 @@ module _ (p : Params) (v : View) (gone : ℕ) (acc : Accepted p v gone) where
       ap (λ (z : Zone). get_or z.blocks 0 no_chunk) (sym (zone_by p v gone g d hd))
       ∙ same_chunk_lem (get_or (get_or x.zones_by_holds d no_zone).blocks 0 no_chunk) (b d) zero_spare
       (not-false (same_chunk (get_or (get_or x.zones_by_holds d no_zone).blocks 0 no_chunk) (b d) zero_spare)
-      (none_in (λ e. not (same_chunk (get_or (get_or x.zones_by_holds e no_zone).blocks 0 no_chunk) (b e) zero_spare)) (present p gone) (faults_apart g m).no_header_fault d (in_present p gone d hd q)))
+      (none_in (λ e. not (same_chunk (get_or (get_or x.zones_by_holds e no_zone).blocks 0 no_chunk) (b e) zero_spare)) (present p gone)
+      (faults_apart g m).no_header_fault d (in_present p gone d hd q)))
 
   module _ (here : Here p gone) where
     -- on every drive the zone that its header names

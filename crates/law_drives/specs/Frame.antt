@@ -168,7 +168,8 @@ module _ (p : Params) (gone : ℕ) (v u : View) (here : Here p gone) (ag : Agree
 
   -- ---- and nothing else is wrong
 
-  same_zone_by : (g : Seg) (d : ℕ) → ZonesLow p gone g → In d (present p gone) → get_or (segment_of p v gone g).zones_by_holds d no_zone ≡ get_or (segment_of p u gone g).zones_by_holds d no_zone
+  same_zone_by : (g : Seg) (d : ℕ) → ZonesLow p gone g → In d (present p gone)
+      → get_or (segment_of p v gone g).zones_by_holds d no_zone ≡ get_or (segment_of p u gone g).zones_by_holds d no_zone
   same_zone_by g d h m = let (hd, q) = present_in p gone d m in zone_by p v gone g d hd ∙ ag d (zone_on g d) hd (low_zone p gone g d h hd q) q ∙ sym (zone_by p u gone g d hd)
 
   same_header_fault : (g : Seg) → ZonesLow p gone g → header_fault p gone (segment_of p v gone g) ≡ header_fault p gone (segment_of p u gone g)

@@ -1,6 +1,8 @@
 -- Headers, records and footers as bytes: lengths, that they are bytes, and that they are read back.
-use Rattle.std.specs.Prelude.{◌≡◌, refl, List, [], ◌∷◌, ◌++◌, ℕ, zero, suc, ◌+◌, ◌-◌, ◌*◌, ◌/◌, ◌%◌, ◌^◌, ◌≤◌, ◌<◌, length, get_or, take, drop, replicate}
-use Rattle.std.proofs.Common.{sym, ap, ◌∙◌, subst, append-nil, append_assoc, inl, inr, div-add-mod', mod-lt, mul-suc, mul-le-mul_right, arith, lit<, length-take, length-drop, take_at, get_or-take, get_or-drop}
+use Rattle.std.specs.Prelude.{◌≡◌, refl, List, [], ◌∷◌, ◌++◌, ℕ, zero, suc, ◌+◌, ◌-◌, ◌*◌, ◌/◌, ◌%◌, ◌^◌, ◌≤◌, ◌<◌}
+use Rattle.std.specs.Prelude.{length, get_or, take, drop, replicate}
+use Rattle.std.proofs.Common.{sym, ap, ◌∙◌, subst, append-nil, append_assoc, inl, inr, div-add-mod', mod-lt, mul-suc, mul-le-mul_right, arith, lit<, length-take}
+use Rattle.std.proofs.Common.{length-drop, take_at, get_or-take, get_or-drop}
 use Rattle.std.proofs.Math.Nat.{pow-le-pow_right}
 use Rattle.spec.specs.declared.Params.{Params}
 use Rattle.spec.specs.Bytes.{be_of, to_be, part, Field, bytes_of, widths_of, field_at, read_field}

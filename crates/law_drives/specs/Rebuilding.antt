@@ -169,7 +169,8 @@ module _ (p : Params) (r : Ranged p) (v : View) (sh : Shaped p v) where
     pieces_room = room_puts p d (zone_on g d) 1 (map piece_chunk lost_pieces) (omega (arith, length-lost, counted-low p gone x, capacity_over p r))
         (λ i h.
         let l : i < length lost_pieces = subst (λ (y : ℕ). i < y) (length-map lost_pieces piece_chunk) h in
-        let e : get_or (map piece_chunk lost_pieces) i no_chunk ≡ piece_chunk (get_or lost_pieces i (mk_piece [] (mk_rec 0 0 0))) = get_d_map piece_chunk lost_pieces i no_chunk (mk_piece [] (mk_rec 0 0 0)) l in
+        let e : get_or (map piece_chunk lost_pieces) i no_chunk ≡ piece_chunk (get_or lost_pieces i (mk_piece [] (mk_rec 0 0 0))) = get_d_map piece_chunk lost_pieces i
+        no_chunk (mk_piece [] (mk_rec 0 0 0)) l in
         let q = get_or lost_pieces i (mk_piece [] (mk_rec 0 0 0)) in
         let (s, m, f) = map_in (λ s. piece_of p gone x s d) (counted p gone x) q (in_get_d lost_pieces i (mk_piece [] (mk_rec 0 0 0)) l) in
         subst (λ (c : Chunk). SoundChunk p (1 + i) c) (sym e)
@@ -444,7 +445,8 @@ module _ (p : Params) (r : Ranged p) (v : View) (sh : Shaped p v) where
 
     -- the zone of a segment that remains: header, chunks and footers
     pub zone_rebuilt : (g : Seg) (m : In g left)
-        → zone_at rebuilt d (zone_on g d) ≡ put_all d (zone_on g d) (rebuilt_chunks (named d) g d (remaining-low p v (named d) (named_here p r d hd) g m) hd lost) (reset_zone (zone_at v d (zone_on g d)))
+        → zone_at rebuilt d (zone_on g d) ≡ put_all d (zone_on g d) (rebuilt_chunks (named d) g d (remaining-low p v (named d) (named_here p r d hd) g m) hd lost)
+        (reset_zone (zone_at v d (zone_on g d)))
     zone_rebuilt g m =
         let z = zone_on g d in
         zone_after p v d z stores sh.sized hd (rebuilt_in_range g m)

@@ -97,7 +97,8 @@ free_vacant p r v sh acc nf = with_vacant p va (λ d. first_or 0 (free_zones p v
         as! q = unfold none_free_of drives_of in q
 
     of : (d : ℕ) → d < p.N → (z : ℕ) → In z (free_zones p v (segments p v 0) d)
-        → (z < p.Z) × (is_good p (store_all store_view_of (drop_stores p v (segments p v 0)) v).offline d z ≡ true) × (pointer_at (store_all store_view_of (drop_stores p v (segments p v 0)) v) d z ≡ 0)
+        → (z < p.Z) × (is_good p (store_all store_view_of (drop_stores p v (segments p v 0)) v).offline d z ≡ true)
+        × (pointer_at (store_all store_view_of (drop_stores p v (segments p v 0)) v) d z ≡ 0)
     of d hd z m = (below_in p.Z z i.0, good, go (ℕ_discrete (pointer_at va! d z) 0))
       where
         va! : View

@@ -21,7 +21,8 @@ use Rattle.spec.specs.Params.{capacity, place_of, place_block, place_zone, place
 use Rattle.spec.specs.Rank.{Cand}
 use Rattle.spec.specs.Read.{place_faults}
 use Rattle.spec.specs.Read.Found.{here}
-use Rattle.spec.specs.Segments.{remaining, Segment, records_in, segment_of, segments, offset_on, has_chunk, counts, offset_of, cand_of, compact_table, is_place, is_used, place_segment, row_of, holders}
+use Rattle.spec.specs.Segments.{remaining, Segment, records_in, segment_of, segments, offset_on, has_chunk, counts, offset_of, cand_of, compact_table, is_place, is_used}
+use Rattle.spec.specs.Segments.{place_segment, row_of, holders}
 use Rattle.law_basic.specs.Geometry.{between_of, Ranged, place_block_lem, place_zone_lem, place_drive_lem, data_drive_lt}
 use Rattle.law_basic.specs.Ranges.{Test, test, and_left, and_right, and_both}
 use Rattle.law_basic.specs.Ranges.Test.{yes!, no! }
@@ -139,7 +140,8 @@ module _ (p : Params) (r : Ranged p) (v : View) (gone : ℕ) (here : Here p gone
           × (is_in gone d ≡ false → 1 + cond (is_in gone d) s (offset_on (segment_of p v gone g) d s) < (zone_at v d (zone_on g d)).pointer)
       go g s d hd hs q (yes! e) = rw e (hs, λ f. true_false f)
       go g s d hd hs q (no! e) =
-          let l = data_low p (zone_at v d (zone_on g d)) (offset_on (segment_of p v gone g) d s) (chunk_at_holds p v gone g d s hd e (counts_in p gone (segment_of p v gone g) s d q hd e)).stored_there in
+          let l = data_low p (zone_at v d (zone_on g d)) (offset_on (segment_of p v gone g) d s)
+          (chunk_at_holds p v gone g d s hd e (counts_in p gone (segment_of p v gone g) s d q hd e)).stored_there in
           rw e (l.0, λ f. l.1)
 
   module _ (c : Cand) (t : Spot p v gone c) where
@@ -211,7 +213,8 @@ module _ (p : Params) (r : Ranged p) (v : View) (gone : ℕ) (here : Here p gone
   entry_is o h =
       let e : row_of p (segments p v gone) d (zone_on g d) ≡ records_in p (sealed_in p v gone g) (zone_at v d (zone_on g d)) =
       row_seg_holds p v gone here d g hd pr hg ∙ recs_here p v gone g d hd pr in
-      let l : length (row_of p (segments p v gone) d (zone_on g d)) ≡ data_stored p (zone_at v d (zone_on g d)) = ap length e ∙ length_records p (sealed_in p v gone g) (zone_at v d (zone_on g d)) in
+      let l : length (row_of p (segments p v gone) d (zone_on g d)) ≡ data_stored p (zone_at v d (zone_on g d)) = ap length e
+      ∙ length_records p (sealed_in p v gone g) (zone_at v d (zone_on g d)) in
       compact_at_holds p v gone here d (zone_on g d) o hd hz (data_low p (zone_at v d (zone_on g d)) o h).0
       ∙ row_at p (row_of p (segments p v gone) d (zone_on g d)) o (subst (λ (x : ℕ). o < x) (sym l) h)
       ∙ ap (λ (x : Rec). compact_entry p x.stripe) (ap (λ (x : List Rec). get_or x o (mk_rec 0 0 0)) e ∙ record_at_lem p (sealed_in p v gone g) (zone_at v d (zone_on g d)) o (mk_rec 0 0 0) h)
@@ -247,7 +250,8 @@ module _ (p : Params) (r : Ranged p) (v : View) (gone : ℕ) (here : Here p gone
       earlier i u w l = not_so (ltb i p.S && shows i) (λ q.
           let a = and_left (ltb i p.S) (shows i) q in
           let x = and_right (ltb i p.S) (shows i) q in
-          let y = ltb-true (1 + i) (pointer_at v d (zone_on g d)) (and_left (ltb (1 + i) (pointer_at v d (zone_on g d))) (eqb (get_or table (compact_at p d (zone_on g d) i) 0) (compact_entry p s)) x) in
+          let y = ltb-true (1 + i) (pointer_at v d (zone_on g d))
+          (and_left (ltb (1 + i) (pointer_at v d (zone_on g d))) (eqb (get_or table (compact_at p d (zone_on g d) i) 0) (compact_entry p s)) x) in
           let z = eqb-true (get_or table (compact_at p d (zone_on g d) i) 0) (compact_entry p s)
           (and_right (ltb (1 + i) (pointer_at v d (zone_on g d))) (eqb (get_or table (compact_at p d (zone_on g d) i) 0) (compact_entry p s)) x) in
           let st : i < data_stored p (zone_at v d (zone_on g d)) = low_data p (zone_at v d (zone_on g d)) i (ltb-true i p.S a) y in

@@ -1,7 +1,8 @@
 -- The tables that the drives say, entry by entry.
 use Rattle.std.specs.Prelude.{◌≡◌, Bool, true, not, ◌&&◌, ℕ, zero, suc, ◌+◌, ◌-◌, ◌*◌, ◌/◌, ◌%◌, ◌^◌, ◌≤◌, ◌<◌, length, replicate}
 use Rattle.std.proofs.Math.Path.{refl, sym, ap}
-use Rattle.std.proofs.Common.{ap₂, ◌∙◌, subst, inl, inr, div-lt_iff_lt-mul, zero-add, mul_comm, suc-mul, zero-mul, mul-le-mul_right, le_trans, le_of_eq, lit<, length-append, get_or-append-add, ext_get_or}
+use Rattle.std.proofs.Common.{ap₂, ◌∙◌, subst, inl, inr, div-lt_iff_lt-mul, zero-add, mul_comm, suc-mul, zero-mul, mul-le-mul_right, le_trans, le_of_eq, lit<}
+use Rattle.std.proofs.Common.{length-append, get_or-append-add, ext_get_or}
 use mathlib.Core.List.{List, [], ◌∷◌, ◌++◌, map, append-nil}
 use Rattle.std.proofs.Math.Bool.{false, cond}
 use Rattle.std.proofs.Math.Nat.{div-add-mod', mul-le-mul, mod-lt, mul_assoc, add-mul}

@@ -149,7 +149,8 @@ module _ (p : Params) (off : List ℕ) (k : Disk) (m : Memory) where
       call_refused p (store_disk p) 0 k m b (first_refusal (read_checks p (false && eqb (length b) p.B) v m a)) (fill_plan p v m a) (short_answer (in_range p))
       (short_rules (in_range p) (drop 2 (read_checks p false v m a)))
 
-  pub fill_keeps : (a : ℕ) (b : List ℕ) → is_refused (call_disk p off k m (fill a b)).answer ≡ true → call_disk p off k m (fill a b) ≡ mk_after (call_disk p off k m (fill a b)).answer k m b
+  pub fill_keeps : (a : ℕ) (b : List ℕ) → is_refused (call_disk p off k m (fill a b)).answer ≡ true
+      → call_disk p off k m (fill a b) ≡ mk_after (call_disk p off k m (fill a b)).answer k m b
   unfolding call_disk call_on store_count lent_block verdict fill_verdict fill_plan is_refused kind
   fill_keeps a b = refused_keeps p (store_disk p) 0 k m b (first_refusal (read_checks p (lent_ok_of p off k m && eqb (length b) p.B) v m a)) (fill_plan p v m a) refl
 
@@ -165,7 +166,8 @@ module _ (p : Params) (off : List ℕ) (k : Disk) (m : Memory) where
       (ap (λ (x : Bool). first_refusal (rule 1 x ∷ drop 1 (restart_checks p false v d (gs d)))) (not_and (in_range p) (names_drive p d))
       ∙ short_rules (in_range p && names_drive p d) (drop 2 (restart_checks p false v d (gs d))))
 
-  pub restart_keeps : (d n : ℕ) → is_refused (call_disk p off k m (restart d n)).answer ≡ true → call_disk p off k m (restart d n) ≡ mk_after (call_disk p off k m (restart d n)).answer k m []
+  pub restart_keeps : (d n : ℕ) → is_refused (call_disk p off k m (restart d n)).answer ≡ true
+      → call_disk p off k m (restart d n) ≡ mk_after (call_disk p off k m (restart d n)).answer k m []
   unfolding call_disk call_on store_count lent_block verdict restart_verdict restart_plan is_refused kind
   restart_keeps d n =
       refused_keeps p (store_disk p) n k m [] (first_refusal (restart_checks p (lent_ok_of p off k m) v d (gs d))) (restart_plan p v d (gs d) m.inflight) refl
@@ -180,6 +182,7 @@ module _ (p : Params) (off : List ℕ) (k : Disk) (m : Memory) where
       (ap (λ (x : Bool). first_refusal (rule 1 x ∷ drop 1 (rebuild_checks p false v m d (gs d)))) (not_and (in_range p) (names_missing p m.state d))
       ∙ short_rules (in_range p && names_missing p m.state d) (drop 2 (rebuild_checks p false v m d (gs d))))
 
-  pub rebuild_keeps : (d n : ℕ) → is_refused (call_disk p off k m (rebuild d n)).answer ≡ true → call_disk p off k m (rebuild d n) ≡ mk_after (call_disk p off k m (rebuild d n)).answer k m []
+  pub rebuild_keeps : (d n : ℕ) → is_refused (call_disk p off k m (rebuild d n)).answer ≡ true
+      → call_disk p off k m (rebuild d n) ≡ mk_after (call_disk p off k m (rebuild d n)).answer k m []
   unfolding call_disk call_on store_count lent_block verdict rebuild_verdict is_refused kind
   rebuild_keeps d n = refused_keeps p (store_disk p) n k m [] (first_refusal (rebuild_checks p (lent_ok_of p off k m) v m d (gs d))) (rebuild_plan d) refl

@@ -110,7 +110,8 @@ zone_none_bad p w q d f = in_none (stored_bad p d) (records_in p w q) (λ y m.
 pub good_at : (p : Params) (w : Bool) (q : Zone) (d o : ℕ) → o < data_stored p q → any (stored_bad p d) (records_in p w q) ≡ false → stored_bad p d (record_in p w q o) ≡ false
 good_at p w q d o h e =
     ap (stored_bad p d) (sym (record_at_lem p w q o (mk_rec 0 0 0) h))
-    ∙ none_in (stored_bad p d) (records_in p w q) e (get_or (records_in p w q) o (mk_rec 0 0 0)) (in_get_d (records_in p w q) o (mk_rec 0 0 0) (subst (λ (n : ℕ). o < n) (sym (length_records p w q)) h))
+    ∙ none_in (stored_bad p d) (records_in p w q) e (get_or (records_in p w q) o (mk_rec 0 0 0))
+    (in_get_d (records_in p w q) o (mk_rec 0 0 0) (subst (λ (n : ℕ). o < n) (sym (length_records p w q)) h))
 
 -- a data chunk that is not bad, under another stripe number
 pub moved_good : (p : Params) (d e : ℕ) (y z : Rec) → is_data p y.stripe d ≡ true → stored_bad p d y ≡ false → z.address ≡ y.address → z.stamp ≡ y.stamp

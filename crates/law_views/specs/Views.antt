@@ -338,7 +338,8 @@ module _ (p : Params) (off : List ℕ) (k : Disk) (d z : ℕ) (hd : d < p.N) (hz
       let v = view_of p off k.image k.pointers in
       ap (λ (x : List ℕ). view_of p off x (splice k.pointers (pointer_byte p d z) (to_be 4 0))) (sym (splice-nil k.image (d * drive_len p + (z * zone_len p + 0))))
       ∙ in_zone 0 [] (to_be 4 0) (omega arith) (length-to_be 4 0)
-      ∙ ap (set_zone v d z) (ap (λ (x : List ℕ). zone_of p x (splice zone_ps 0 (to_be 4 0))) (splice-nil zone_im 0) ∙ zone_reset p zone_im zone_ps zone_ps_long ∙ ap reset_zone (sym zone_at_holds))
+      ∙ ap (set_zone v d z) (ap (λ (x : List ℕ). zone_of p x (splice zone_ps 0 (to_be 4 0))) (splice-nil zone_im 0) ∙ zone_reset p zone_im zone_ps zone_ps_long
+      ∙ ap reset_zone (sym zone_at_holds))
 
   four_fits : (n : ℕ) → pointer_byte p d z + length (to_be 4 n) ≤ length k.pointers
   four_fits n =
@@ -380,7 +381,8 @@ AllFit p v (s ∷ ss) = Fits p v s × AllFit p (store_view_of s v) ss
 abbrev pub seen : Params → List ℕ → Disk → View
 seen p off k = view_of p off k.image k.pointers
 
-pub view_store : (p : Params) (off : List ℕ) (k : Disk) (s : Store) → capacity p < 256 ^ 4 → Whole p k → Fits p (seen p off k) s → seen p off (store_disk p s k) ≡ store_view_of s (seen p off k)
+pub view_store : (p : Params) (off : List ℕ) (k : Disk) (s : Store) → capacity p < 256 ^ 4 → Whole p k → Fits p (seen p off k) s
+    → seen p off (store_disk p s k) ≡ store_view_of s (seen p off k)
 view_store p off k (put d z b s) c w (hd, hz, hp, hb, hs) = view_put p off k d z hd hz w b s hp c hb hs
 view_store p off k (reset d z) c w (hd, hz) = view_reset p off k d z hd hz w
 

@@ -1,5 +1,6 @@
 -- Numbers marked in bytes (01, Reclaim: different places). Assumes nothing.
-use Rattle.std.specs.Prelude.{◌≡◌, refl, List, [], ◌∷◌, ◌++◌, Bool, true, false, cond, ◌&&◌, ◌||◌, ◌⊎◌, ℕ, zero, suc, ◌+◌, ◌-◌, ◌*◌, ◌/◌, ◌%◌, ◌≤◌, ◌<◌, leb, eqb, length, get_or, set, replicate}
+use Rattle.std.specs.Prelude.{◌≡◌, refl, List, [], ◌∷◌, ◌++◌, Bool, true, false, cond, ◌&&◌, ◌||◌, ◌⊎◌, ℕ, zero, suc, ◌+◌, ◌-◌}
+use Rattle.std.specs.Prelude.{◌*◌, ◌/◌, ◌%◌, ◌≤◌, ◌<◌, leb, eqb, length, get_or, set, replicate}
 use Rattle.std.proofs.Common.{sym, ap, ◌∙◌, inl, inr, add-zero, le-leb, lt-ltb, le-ltb, eq-eqb, ne_eqb, eqb-true, arith, length-append, get_or-set_same, get_or-set_other}
 use Rattle.std.proofs.Math.Decide.{dec_lt, dec_le}
 use Rattle.std.proofs.lemmas.Bool.{lt-leb, eqb-false}
@@ -106,7 +107,8 @@ turned tb n ms₀ ms ms' first end fits so e q low high = go (dec_le first t) (d
 
     more : (b : Bool) → eqb q t ≡ b → (b || (is_pointed tb n q || is_marked ms₀ (q - first))) ≡ (is_pointed tb (n + 1) q || is_marked ms₀ (q - first))
     more b f =
-        swap b (is_pointed tb n q) (is_marked ms₀ (q - first)) ∙ ap (λ (x : Bool). x || is_marked ms₀ (q - first)) (ap (λ (x : Bool). is_pointed tb n q || x) (sym f) ∙ sym (pointed-more tb n q))
+        swap b (is_pointed tb n q) (is_marked ms₀ (q - first))
+        ∙ ap (λ (x : Bool). x || is_marked ms₀ (q - first)) (ap (λ (x : Bool). is_pointed tb n q || x) (sym f) ∙ sym (pointed-more tb n q))
       where
         swap : (x y z : Bool) → (x || (y || z)) ≡ ((y || x) || z)
         swap true true z = refl
@@ -194,7 +196,8 @@ pub byte_more : (ms : List ℕ) (a i n : ℕ) → a ≤ i → get_or ms i 0 < 25
     → n + ones (get_or ms i 0) ≡ length (keep (is_marked ms) (up_from (8 * a) (8 * (i + 1) - 8 * a)))
 byte_more ms a i n h low e =
     let f : 8 * (i + 1) - 8 * i ≡ 8 = omega arith in
-    let g : length (keep (is_marked ms) (up_from (8 * i) (8 * (i + 1) - 8 * i))) ≡ ones (get_or ms i 0) = ap (λ (x : ℕ). length (keep (is_marked ms) (up_from (8 * i) x))) f ∙ marked_byte ms i low in
+    let g : length (keep (is_marked ms) (up_from (8 * i) (8 * (i + 1) - 8 * i))) ≡ ones (get_or ms i 0) = ap
+    (λ (x : ℕ). length (keep (is_marked ms) (up_from (8 * i) x))) f ∙ marked_byte ms i low in
     omega (arith, e, g, kept_split (is_marked ms) (8 * a) (8 * i) (8 * (i + 1)) (omega arith) (omega arith))
 
 -- a byte without marks

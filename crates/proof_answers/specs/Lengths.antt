@@ -5,7 +5,8 @@ use Rattle.std.proofs.Common.{sym, ◌∙◌, arith, length-set, get_or-set_same
 use Rattle.std.proofs.Math.Decide.{ℕ_discrete}
 use Rattle.std.proofs.Math.ListN.{length, length-map}
 use Rattle.spec.specs.declared.Params.{Params}
-use Rattle.spec.specs.Drives.{Chunk, mk_chunk, no_chunk, Zone, View, zone_at, chunk_at, Store, put_zone, Disk, zone_on, zero_spare, spares_of, footer_stores, header_stores, reset_stores, zones_in, is_good}
+use Rattle.spec.specs.Drives.{Chunk, mk_chunk, no_chunk, Zone, View, zone_at, chunk_at, Store, put_zone, Disk, zone_on, zero_spare, spares_of, footer_stores}
+use Rattle.spec.specs.Drives.{header_stores, reset_stores, zones_in, is_good}
 use Rattle.spec.specs.Drives.Store.{put, reset}
 use Rattle.spec.specs.Layout.{data_drive, data_drives, data_position, is_data, parity_position, header_block, mk_rec, footer_block}
 use Rattle.spec.specs.Lists.{up_from, below, is_in}

@@ -72,7 +72,8 @@ headers_able p r v z sn c va = record {
   rises = λ d y hd hy. subst (λ (l : List Store). Rises p (pointer_at v d y) l) (sym (hits-headers p d y z sn c hd)) (go d y hd (ℕ_discrete (zone_on z d) y));
 }
   where
-    go : (d y : ℕ) → d < p.N → Dec (zone_on z d ≡ y) → Rises p (pointer_at v d y) (cond (eqb (zone_on z d) y) (put d (zone_on z d) (header_block p d (zones_in p z) sn c) zero_spare ∷ []) [])
+    go : (d y : ℕ) → d < p.N → Dec (zone_on z d ≡ y)
+        → Rises p (pointer_at v d y) (cond (eqb (zone_on z d) y) (put d (zone_on z d) (header_block p d (zones_in p z) sn c) zero_spare ∷ []) [])
     go d y hd (yes q) =
         let n : pointer_at v d y ≡ 0 = ap (λ (x : ℕ). pointer_at v d x) (sym q) ∙ va.vacant_empty d hd in
         subst (λ (l : List Store). Rises p (pointer_at v d y) l)
@@ -200,7 +201,8 @@ module _ (p : Params) (r : Ranged p) (v : View) (sized : Sized p v) (fair : (d z
           (sym (other e y (on_drive (zone_on g) d e y ∙ and_false_right (eqb d e) (eqb (zone_on g e) y) (ne_eqb (zone_on g e) y n)) ∙ off e y he hy n)) tt
       go (yes a) (no n) =
           subst (λ (x : ℕ). Rises p (pointer_at v e x) (hits e x (chunk ∷ ts))) a
-          (subst (λ (l : List Store). Rises p (pointer_at v e (zone_on g e)) l) (sym (other e (zone_on g e) (and_false_left (eqb d e) (eqb (zone_on g d) (zone_on g e)) (ne_eqb d e n)))) (there e he n))
+          (subst (λ (l : List Store). Rises p (pointer_at v e (zone_on g e)) l)
+          (sym (other e (zone_on g e) (and_false_left (eqb d e) (eqb (zone_on g d) (zone_on g e)) (ne_eqb d e n)))) (there e he n))
       go (yes a) (yes b) =
           subst (λ (x : ℕ). Rises p (pointer_at v e x) (hits e x (chunk ∷ ts))) a
           (subst (λ (x : ℕ). Rises p (pointer_at v x (zone_on g x)) (hits x (zone_on g x) (chunk ∷ ts))) b

@@ -261,7 +261,8 @@ module _ (p : Params) (long : Bool) (v u : View) (list : v.offline ≡ u.offline
 
   pub write_same : (a : ℕ) (b : List ℕ) → write_verdict p long v m a b ≡ write_verdict p long u m a b
   unfolding write_verdict_in
-  write_same a b = decided_same (first_refusal (write_checks p long v m a b)) (first_refusal (write_checks p long u m a b)) (write_plan p v m a b) (write_plan p u m a b) (write_checks_same write_order a b)
+  write_same a b = decided_same (first_refusal (write_checks p long v m a b)) (first_refusal (write_checks p long u m a b)) (write_plan p v m a b) (write_plan p u m a b)
+      (write_checks_same write_order a b)
       (λ e. write_plan_same p v u (alike (write_passed p long v m a b e).lent) m a b)
 
   -- 01, Closing

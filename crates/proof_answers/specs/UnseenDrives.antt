@@ -11,7 +11,8 @@ use Rattle.std.proofs.lemmas.List.{length-map}
 use Rattle.spec.specs.declared.Params.{Params}
 use Rattle.spec.specs.declared.Seg.{Seg}
 use Rattle.spec.specs.Drives.{no_chunk, Zone, no_zone, View, zone_at, pointer_at, is_good, zone_on, sealed_in, zero_spare, same_seg}
-use Rattle.spec.specs.Faults.{pointer_faults, same_chunk, header_fault, own_fault, bad_name, name_clash, serial_twice, serial_fault, stripe_fault, address_fault, decoded_bad, footer_fault_in, footer_fault}
+use Rattle.spec.specs.Faults.{pointer_faults, same_chunk, header_fault, own_fault, bad_name, name_clash, serial_twice, serial_fault, stripe_fault, address_fault}
+use Rattle.spec.specs.Faults.{decoded_bad, footer_fault_in, footer_fault}
 use Rattle.spec.specs.Faults.{clashes, segment_fault, segment_faults}
 use Rattle.spec.specs.Layout.{header_block, header_serial, header_copied, header_zones}
 use Rattle.spec.specs.Lists.{below, any, keep, is_in}
@@ -159,7 +160,8 @@ module _ (p : Params) (v u : View) (al : UnseenZonesAlike p v u) (gone : ℕ) wh
           (λ d i. unseen_drives_by_drive [] (records_in p (sealed_in p v gone g)) d (below_in p.N d i))
           ∙ ap (λ (w : Bool). map (λ d. cond (is_in gone d) [] (records_in p w (get_or (zones_on u) d no_zone))) (below p.N)) full
 
-      unseen_drives_zones_same : map (λ d. cond (is_in gone d) no_zone (get_or (zones_on v) d no_zone)) (below p.N) ≡ map (λ d. cond (is_in gone d) no_zone (get_or (zones_on u) d no_zone)) (below p.N)
+      unseen_drives_zones_same : map (λ d. cond (is_in gone d) no_zone (get_or (zones_on v) d no_zone)) (below p.N) ≡ map
+          (λ d. cond (is_in gone d) no_zone (get_or (zones_on u) d no_zone)) (below p.N)
       unseen_drives_zones_same = map_cong (λ d. cond (is_in gone d) no_zone (get_or (zones_on v) d no_zone)) (λ d. cond (is_in gone d) no_zone (get_or (zones_on u) d no_zone)) (below p.N)
           (λ d i. unseen_drives_by_drive no_zone (λ (z : Zone). z) d (below_in p.N d i))
 

@@ -24,7 +24,8 @@ use Rattle.spec.specs.Memory.{Memory, mk_memory, idle_state}
 use Rattle.spec.specs.Params.{in_range, footers, named, drives_of, present}
 use Rattle.spec.specs.Parity.{Piece, mk_piece, decode_piece}
 use Rattle.spec.specs.Rebuild.{names_missing, rebuild_checks, rebuilt_zone, insert_segment, by_serial, rebuild_stores, rebuild_verdict}
-use Rattle.spec.specs.Restart.{free_zones, free_seg, none_free_of, serials_there, dropped_serials, drop_stores, mend_stores, restart_stores, open_of_of, next_of, restart_memory, uncounted_in, report_of, names_drive}
+use Rattle.spec.specs.Restart.{free_zones, free_seg, none_free_of, serials_there, dropped_serials, drop_stores, mend_stores, restart_stores, open_of_of, next_of}
+use Rattle.spec.specs.Restart.{restart_memory, uncounted_in, report_of, names_drive}
 use Rattle.spec.specs.Restart.{is_ragged, rewrites, restart_checks, restart_plan, restart_verdict}
 use Rattle.spec.specs.Segments.{is_used, serial_in, bearing, Segment, segments, recs_on, offset_on, has_chunk}
 use Rattle.spec.specs.Segments.{counts, counted, uncounted, stored_piece, piece_of, put_piece, stored_rec, rec_of, offset_of, cand_of}
@@ -245,7 +246,8 @@ module _ (p : Params) (long : Bool) (v u : View) (list : v.offline ≡ u.offline
       λ i. mk_plan (ss i) (Restarted (record { uncounted = report_same p r v u al (named d) low i })) (memories r al low ss i) []
     where
       memories : (r : Ranged p) → UnseenZonesAlike p v u → (low : Here p (named d)) → restart_stores p v (named d) sv ≡ restart_stores p u (named d) su
-          → restart_memory p (store_all store_view_of (restart_stores p v (named d) sv) v) (named d) fl ≡ restart_memory p (store_all store_view_of (restart_stores p u (named d) su) u) (named d) fl
+          → restart_memory p (store_all store_view_of (restart_stores p v (named d) sv) v) (named d) fl ≡ restart_memory p
+          (store_all store_view_of (restart_stores p u (named d) su) u) (named d) fl
       memories r al low ss =
           memory_same p r (store_all store_view_of (restart_stores p v (named d) sv) v) (store_all store_view_of (restart_stores p v (named d) sv) u)
           (alike_stores p (restart_stores p v (named d) sv) v u al) (named d) low fl
@@ -285,7 +287,8 @@ unfolding stored_piece offset_on recs_on
 veil-stored p gone g s e i = ap (λ (z : Zone). mk_piece (get_or z.blocks (1 + offset_on g e s) no_chunk).block (get_or (recs_on g e) (offset_on g e s) (mk_rec 0 0 0))) (veil_zone p gone g e i)
     ∙ same
   where
-    same : mk_piece (get_or (get_or (veil p gone g).zones_by_holds e no_zone).blocks (1 + offset_on g e s) no_chunk).block (get_or (recs_on g e) (offset_on g e s) (mk_rec 0 0 0)) ≡ stored_piece (veil p gone g) s e
+    same : mk_piece (get_or (get_or (veil p gone g).zones_by_holds e no_zone).blocks (1 + offset_on g e s) no_chunk).block
+        (get_or (recs_on g e) (offset_on g e s) (mk_rec 0 0 0)) ≡ stored_piece (veil p gone g) s e
     same = unfold stored_piece offset_on recs_on veil in refl
 
 veil_piece : (p : Params) (gone : ℕ) (g : Segment) (s d : ℕ) → is_in gone d ≡ true → piece_of p gone g s d ≡ piece_of p gone (veil p gone g) s d

@@ -4,7 +4,8 @@ use Rattle.std.proofs.Common.{sym, subst, inl, inr, ⊎_elim}
 use Prim.Native.Nat.{ℕ, zero, suc, ◌+◌, ◌*◌}
 use Rattle.spec.specs.declared.Params.{Params}
 use Rattle.spec.specs.Bytes.{splice}
-use Rattle.spec.specs.Drives.{Chunk, mk_chunk, no_chunk, Zone, mk_zone, no_zone, View, zone_at, chunk_of, zone_of, drive_of, view_of, Store, put_zone, reset_zone, set_zone, store_view_of, Disk, store_disk, store_all}
+use Rattle.spec.specs.Drives.{Chunk, mk_chunk, no_chunk, Zone, mk_zone, no_zone, View, zone_at, chunk_of, zone_of, drive_of, view_of, Store, put_zone, reset_zone}
+use Rattle.spec.specs.Drives.{set_zone, store_view_of, Disk, store_disk, store_all}
 use Rattle.spec.specs.Drives.{pointer_of, zones_of}
 use Rattle.spec.specs.Drives.Store.{put, reset}
 use Rattle.spec.specs.Lists.{flat, pieces, zipped}

@@ -11,7 +11,8 @@ use Rattle.std.proofs.lemmas.List.{length-map}
 use Rattle.spec.specs.declared.State.{State}
 use Rattle.spec.specs.Bytes.{le_of, to_le, part}
 use Rattle.spec.specs.Lists.{up_from, below, flat, total, zipped}
-use Rattle.spec.specs.Memory.{idle_state, zero_state, Section, section, state_sections, section_len, section_at, state_len, numbers_at, section_of, number_of, state_numbers, section_bytes, state_bytes, state_of}
+use Rattle.spec.specs.Memory.{idle_state, zero_state, Section, section, state_sections, section_len, section_at, state_len, numbers_at, section_of, number_of}
+use Rattle.spec.specs.Memory.{state_numbers, section_bytes, state_bytes, state_of}
 use Rattle.law_basic.specs.Le.{le_of_lt}
 use Rattle.law_basic.specs.Ranges.{length-below, get_d_map-below}
 use Rattle.law_basic.specs.Sections.{length-numbers_at, SectionCounts, Fitting, sections_bytes, length_sections}

@@ -15,7 +15,8 @@ use Rattle.spec.specs.Demands.{are_bytes, ReadOk, SameAs, RestartOk, ClaimOf, Al
 use Rattle.spec.specs.Drives.{Disk, mk_disk, pointer_byte, list_ok}
 use Rattle.spec.specs.Engine.{Call, lent_block, lent_ok_of, call_disk, Lent, Left, lent_disk, lent_memory, call_bytes}
 use Rattle.spec.specs.Engine.Call.{read, fill, restart}
-use Rattle.spec.specs.History.{World, mk_world, Event, call_of, restart_of, in_order_of, swapped, before, happens, only_if, orderly, restart_in, world_after, sent_after, untrusted_after, Mark, Hist, marked}
+use Rattle.spec.specs.History.{World, mk_world, Event, call_of, restart_of, in_order_of, swapped, before, happens, only_if, orderly, restart_in, world_after, sent_after}
+use Rattle.spec.specs.History.{untrusted_after, Mark, Hist, marked}
 use Rattle.spec.specs.History.{step}
 use Rattle.spec.specs.History.{began, names_all, allowed, seen_by, seen_at}
 use Rattle.spec.specs.History.Event.{calls as calls', boots as boots'}
@@ -30,7 +31,8 @@ use Rattle.proof_crash.proofs.Demand.{demand_3}
 use Rattle.law_lent.specs.Shorts.{short_refused}
 use Rattle.proof_crash_calls.proofs.Join.{sent-refused}
 use Rattle.spec_demands.specs.Engines.{on_bytes, call_lent, reads_as}
-use Rattle.spec_demands.specs.Histories.{LentEvent, lent_call, with_disk, lent_in_order, lent_before, lent_happens, lent_orderly, lent_restart, lent_after, LentMark, LentHist, lent_marked, lent_step, lent_began}
+use Rattle.spec_demands.specs.Histories.{LentEvent, lent_call, with_disk, lent_in_order, lent_before, lent_happens, lent_orderly, lent_restart, lent_after, LentMark}
+use Rattle.spec_demands.specs.Histories.{LentHist, lent_marked, lent_step, lent_began}
 use Rattle.spec_demands.specs.Histories.{lent_bytes, event_bytes, lent_allowed, LentAllowed, LentSame, LentClaim, LentClaims, Demand3}
 use Rattle.spec_demands.specs.Histories.LentEvent.{calls, boots}
 use Rattle.law_drives.specs.Image.{bytes_of}

@@ -64,7 +64,8 @@ lent_list p l c = list_same p l c
 
 -- a state of another length: refused with 1 or 2
 pub short_answer_lem : (p : Params) (l : Lent) (d n : ℕ) → (length l.state ≡ state_len → ⊥) → (call_bytes p l (restart d n)).answer ≡ short_answer (in_range p && names_drive p d)
-short_answer_lem p l d n h = sym (ap (λ (x : Left). x.answer) (bytes_short p l (restart d n) h (short_answer good) [] (short_refused good) (restart_short p l.offline (lent_disk l) (lent_memory l) d n)))
+short_answer_lem p l d n h = sym (ap (λ (x : Left). x.answer)
+    (bytes_short p l (restart d n) h (short_answer good) [] (short_refused good) (restart_short p l.offline (lent_disk l) (lent_memory l) d n)))
   where
     good : Bool
     good = in_range p && names_drive p d

@@ -193,7 +193,8 @@ module _ (p : Params) (h : Ranged p) (off : List ℕ) (s : Hist) (H : Holds p h 
           was = unfold before in cond_false (in_order_of p off (mk_world s.world.disk m) d) (mk_world (swapped p s.world.disk d im ps) m) (mk_world s.world.disk m) q
 
           is : restart_in p off s.world (boots d c m im ps) ≡ none
-          is = unfold restart_in call_of restart_of in (ap (λ (x : World). orderly p off x (some d)) was ∙ (unfold orderly in (ap (λ (x : Bool). only_if x (some d)) q ∙ (unfold only_if in refl))))
+          is = unfold restart_in call_of restart_of in
+              (ap (λ (x : World). orderly p off x (some d)) was ∙ (unfold orderly in (ap (λ (x : Bool). only_if x (some d)) q ∙ (unfold only_if in refl))))
       go (yes! q) =
           ordered-event (boots d c m im ps) d c k m hp st is (swapped_whole p off s.world.disk whole? d im ps)
           (swapped_ok p off s.world.disk whole? d im ps).others (swapped_none p off s.world.disk whole? d im ps) ord al
@@ -208,7 +209,8 @@ module _ (p : Params) (h : Ranged p) (off : List ℕ) (s : Hist) (H : Holds p h 
               reveal q = unfold in_order_of in q
 
           is : restart_in p off s.world (boots d c m im ps) ≡ some d
-          is = unfold restart_in call_of restart_of in (ap (λ (x : World). orderly p off x (some d)) was ∙ (unfold orderly in (ap (λ (x : Bool). only_if x (some d)) ord ∙ (unfold only_if in refl))))
+          is = unfold restart_in call_of restart_of in
+              (ap (λ (x : World). orderly p off x (some d)) was ∙ (unfold orderly in (ap (λ (x : Bool). only_if x (some d)) ord ∙ (unfold only_if in refl))))
 
           hp : happens p off s.world (boots d c m im ps) ≡ call_disk p off k m (restart d c)
           hp = unfold happens call_of in ap (λ (x : World). call_disk p off x.disk x.memory (restart d c)) was

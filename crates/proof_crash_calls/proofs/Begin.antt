@@ -94,7 +94,8 @@ module _ (p : Params) (h : Ranged p) (off : List ℕ) (g : Ghost) (v : ItemView)
   others_begun : (j : ℕ) → j < 8 → in_use_of st j ≡ true
       → SlotOf p v (begin_stripe st i) fl M.zone j ((begun_mem (par_of p h off) M).F (stripe_in (begin_stripe st i) j)) ((begun_mem (par_of p h off) M).ready (stripe_in (begin_stripe st i) j))
   others_begun j jl q =
-      slot_keep p h (λ e. v e M.zone) (λ e. v e M.zone) (slot_block p fl j) (slot_block p fl j) (entry_in_of st j) (entry_in_of (begin_stripe st i) j) (offset_in st j) (offset_in (begin_stripe st i) j)
+      slot_keep p h (λ e. v e M.zone) (λ e. v e M.zone) (slot_block p fl j) (slot_block p fl j) (entry_in_of st j) (entry_in_of (begin_stripe st i) j) (offset_in st j)
+      (offset_in (begin_stripe st i) j)
       (stripe_in st j) (stripe_in (begin_stripe st i) j) (filled_in_of st j) (filled_in_of (begin_stripe st i) j) (landed_in st j) (landed_in (begin_stripe st i) j)
       ((begun_mem (par_of p h off) M).F (stripe_in (begin_stripe st i) j)) ((begun_mem (par_of p h off) M).ready (stripe_in (begin_stripe st i) j))
       S.number S.filled S.landed (λ e el. refl) S.entry S.offset (λ e x y el w. w) (λ e x el w. w)

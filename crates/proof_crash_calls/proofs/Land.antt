@@ -19,7 +19,8 @@ use Rattle.spec.specs.History.{Send, acknowledge, forget}
 use Rattle.spec.specs.Landing.{slot_of, completes, seals, flight_rec, landed_cands, pointed, seal_stores, writes_in, land_store, land_plan}
 use Rattle.spec.specs.Layout.{parity_drive, data_drive, Rec, record_bytes}
 use Rattle.spec.specs.Lists.{below, keep, tally, is_in}
-use Rattle.spec.specs.Memory.{Memory, slot_count, slots, stripe_in, filled_in_of, landed_in, is_write, entry_in_of, offset_in, is_free, in_flight, set_closed, landed_mask, mark_landed, free_stripe, slot_block}
+use Rattle.spec.specs.Memory.{Memory, slot_count, slots, stripe_in, filled_in_of, landed_in, is_write, entry_in_of, offset_in, is_free, in_flight, set_closed}
+use Rattle.spec.specs.Memory.{landed_mask, mark_landed, free_stripe, slot_block}
 use Rattle.spec.specs.Params.{data_count, footers, capacity, addresses_len, inflight_len}
 use Rattle.law_basic.specs.Geometry.{Ranged}
 use Rattle.law_basic.specs.Ranges.{Test, test, and_left, and_right, and_both, and_fails}
@@ -109,7 +110,8 @@ sends-acked p st d s ss e f =
     cond_true (ltb 0 (cond (completes p st (slot_of st s) d) (writes_in st (slot_of st s)) 0)) (map (acknowledge s) ss) ss
     (ap (ltb 0) (cond_true (completes p st (slot_of st s) d) (writes_in st (slot_of st s)) 0 e) ∙ f)
 
-pub sends_as_were : (p : Params) (st : State) (d s : ℕ) (ss : List Send) → completes p st (slot_of st s) d ≡ true → ltb 0 (writes_in st (slot_of st s)) ≡ false → land_sends p st d s ss ≡ ss
+pub sends_as_were : (p : Params) (st : State) (d s : ℕ) (ss : List Send) → completes p st (slot_of st s) d ≡ true → ltb 0 (writes_in st (slot_of st s)) ≡ false
+    → land_sends p st d s ss ≡ ss
 unfolding land_sends land_count
 sends_as_were p st d s ss e f =
     cond_false (ltb 0 (cond (completes p st (slot_of st s) d) (writes_in st (slot_of st s)) 0)) (map (acknowledge s) ss) ss
@@ -389,13 +391,15 @@ module _ (p : Params) (h : Ranged p) (off : List ℕ) (v : View) (m : Memory) (s
             (λ j b q. (b, q, none_waits (let x : writes_in st i ≤ 0 = ltb-false 0 (writes_in st i) e in omega arith) j b q, refl))
 
     -- ---- another stripe begins or is in flight
-    live_done : (M.next ≡ p.S → (j : ℕ) × (j < 8) × (in_use_of st j ≡ true) × (j ≢ i)) → (x : Live p h off (store_all store_view_of (w ∷ []) v) st₂ fl tb₂ (land_sends p st d s ss) n)
+    live_done : (M.next ≡ p.S → (j : ℕ) × (j < 8) × (in_use_of st j ≡ true) × (j ≢ i))
+        → (x : Live p h off (store_all store_view_of (w ∷ []) v) st₂ fl tb₂ (land_sends p st d s ss) n)
         × Later l.g x.g
     unfolding store_all
     live_done more = live_after p h off v m.state m.inflight m.addresses ss n l (w ∷ []) vi g₂ tie₁ a₂ l.c (ended M s) l.T st₂ fl tb₂ (land_sends p st d s ss) later₂ go₂
         (ended_rel p h v₀ st fl M l.rel d s i o A.drive A.low A.used? A.number oe wide done' more)
         logged₂
-        (λ j b q. let k : (j < length ss) × ((send_at ss j).waits ≡ true) × ((send_at ss j).stripe ≢ s) × ((send_at (land_sends p st d s ss) j).stripe ≡ (send_at ss j).stripe) = still_waits j b q in
+        (λ j b q. let k : (j < length ss) × ((send_at ss j).waits ≡ true) × ((send_at ss j).stripe ≢ s)
+        × ((send_at (land_sends p st d s ss) j).stripe ≡ (send_at ss j).stripe) = still_waits j b q in
         let y : Waiting p st M (l.T.log j) (send_at ss j).stripe × InV (l.T.log j) l.g.sent × (l.T.pos (l.T.log j).stamp ≡ j) = l.waits j k.0 k.1 in (
           subst (λ (t : ℕ). Waiting p st₂ (ended M s) (l.T.log j) t) (sym k.3)
               (ended_waits p h v₀ st fl M l.rel d s i o A.drive A.low A.used? A.number oe wide done' (l.T.log j) (send_at ss j).stripe k.2 y.0),
@@ -553,7 +557,8 @@ module _ (p : Params) (h : Ranged p) (off : List ℕ) (v : View) (m : Memory) (s
       q.memory.state
       ≡ cond (seals p st i d) (set_closed (cond (completes p st i d) (free_stripe (mark_landed st i d (pointer_at v d (zone_on (open_segment p v st) d) - 1)) i)
       (mark_landed st i d (pointer_at v d (zone_on (open_segment p v st) d) - 1))))
-      (cond (completes p st i d) (free_stripe (mark_landed st i d (pointer_at v d (zone_on (open_segment p v st) d) - 1)) i) (mark_landed st i d (pointer_at v d (zone_on (open_segment p v st) d) - 1)))
+      (cond (completes p st i d) (free_stripe (mark_landed st i d (pointer_at v d (zone_on (open_segment p v st) d) - 1)) i)
+      (mark_landed st i d (pointer_at v d (zone_on (open_segment p v st) d) - 1)))
   unfolding land_plan
   plan-state = refl
 
@@ -594,7 +599,8 @@ module _ (p : Params) (h : Ranged p) (off : List ℕ) (v : View) (m : Memory) (s
       ∙ cond_false (seals p st i d) (set_closed (cond (completes p st i d)
       (free_stripe (mark_landed st i d (pointer_at v d (zone_on (open_segment p v st) d) - 1)) i)
       (mark_landed st i d (pointer_at v d (zone_on (open_segment p v st) d) - 1))))
-      (cond (completes p st i d) (free_stripe (mark_landed st i d (pointer_at v d (zone_on (open_segment p v st) d) - 1)) i) (mark_landed st i d (pointer_at v d (zone_on (open_segment p v st) d) - 1))) f
+      (cond (completes p st i d) (free_stripe (mark_landed st i d (pointer_at v d (zone_on (open_segment p v st) d) - 1)) i)
+      (mark_landed st i d (pointer_at v d (zone_on (open_segment p v st) d) - 1))) f
       ∙ cond_false (completes p st i d) (free_stripe (mark_landed st i d (pointer_at v d (zone_on (open_segment p v st) d) - 1)) i)
       (mark_landed st i d (pointer_at v d (zone_on (open_segment p v st) d) - 1)) e
       ∙ ap (mark_landed st i d) plan_o
@@ -604,7 +610,8 @@ module _ (p : Params) (h : Ranged p) (off : List ℕ) (v : View) (m : Memory) (s
       ∙ cond_false (seals p st i d) (set_closed (cond (completes p st i d)
       (free_stripe (mark_landed st i d (pointer_at v d (zone_on (open_segment p v st) d) - 1)) i)
       (mark_landed st i d (pointer_at v d (zone_on (open_segment p v st) d) - 1))))
-      (cond (completes p st i d) (free_stripe (mark_landed st i d (pointer_at v d (zone_on (open_segment p v st) d) - 1)) i) (mark_landed st i d (pointer_at v d (zone_on (open_segment p v st) d) - 1))) f
+      (cond (completes p st i d) (free_stripe (mark_landed st i d (pointer_at v d (zone_on (open_segment p v st) d) - 1)) i)
+      (mark_landed st i d (pointer_at v d (zone_on (open_segment p v st) d) - 1))) f
       ∙ cond_true (completes p st i d) (free_stripe (mark_landed st i d (pointer_at v d (zone_on (open_segment p v st) d) - 1)) i)
       (mark_landed st i d (pointer_at v d (zone_on (open_segment p v st) d) - 1)) e
       ∙ ap (λ (x : ℕ). free_stripe (mark_landed st i d x) i) plan_o
@@ -614,7 +621,8 @@ module _ (p : Params) (h : Ranged p) (off : List ℕ) (v : View) (m : Memory) (s
       ∙ cond_true (seals p st i d) (set_closed (cond (completes p st i d)
       (free_stripe (mark_landed st i d (pointer_at v d (zone_on (open_segment p v st) d) - 1)) i)
       (mark_landed st i d (pointer_at v d (zone_on (open_segment p v st) d) - 1))))
-      (cond (completes p st i d) (free_stripe (mark_landed st i d (pointer_at v d (zone_on (open_segment p v st) d) - 1)) i) (mark_landed st i d (pointer_at v d (zone_on (open_segment p v st) d) - 1))) f
+      (cond (completes p st i d) (free_stripe (mark_landed st i d (pointer_at v d (zone_on (open_segment p v st) d) - 1)) i)
+      (mark_landed st i d (pointer_at v d (zone_on (open_segment p v st) d) - 1))) f
       ∙ ap set_closed (cond_true (completes p st i d) (free_stripe (mark_landed st i d (pointer_at v d (zone_on (open_segment p v st) d) - 1)) i)
       (mark_landed st i d (pointer_at v d (zone_on (open_segment p v st) d) - 1)) e
       ∙ ap (λ (x : ℕ). free_stripe (mark_landed st i d x) i) plan_o)

@@ -286,7 +286,8 @@ module _ (p : Params) (h : Ranged p) (off : List ℕ) (v : View) (m : Memory) (s
     where
       full : filled_in_of st i ≡ data_count p
       full =
-          let b : data_count p ≤ filled_in_of st i = leb-true (data_count p) (filled_in_of st i) (sym (ready-parity p s (filled_in_of st i)) ∙ ap (ready_at p s (filled_in_of st i)) (sym e) ∙ A.may) in
+          let b : data_count p ≤ filled_in_of st i = leb-true (data_count p) (filled_in_of st i)
+          (sym (ready-parity p s (filled_in_of st i)) ∙ ap (ready_at p s (filled_in_of st i)) (sym e) ∙ A.may) in
           omega (arith, b, land_slot.most)
 
       is : flight_rec p st i d ≡ parity_rec s (map (entry_in_of st i) (below (filled_in_of st i)))

@@ -65,6 +65,7 @@ module _ (p : Params) (h : Ranged p) (off : List ℕ) (g : Ghost) (v : View) (u 
 
 -- what a healthy restart finds open: b, segment z by name and next stripe n; if open, the stripes below n are on all drives, and they are not all S
 pub record Finds (p : Params) (v : View) (u : ItemView) (b : Bool) (z n : ℕ) : Type 0 where
-  pub is : ((b ≡ true) × (open_of_of (unsealed (segments p v 0)) ≡ z) × (z ≢ 0) × (next_of p (unsealed (segments p v 0)) ≡ n)) ⊎ ((b ≡ false) × (open_of_of (unsealed (segments p v 0)) ≡ 0))
+  pub is : ((b ≡ true) × (open_of_of (unsealed (segments p v 0)) ≡ z) × (z ≢ 0) × (next_of p (unsealed (segments p v 0)) ≡ n)) ⊎
+      ((b ≡ false) × (open_of_of (unsealed (segments p v 0)) ≡ 0))
   pub less : b ≡ true → n < p.S
   pub full : b ≡ true → (s : ℕ) → s < n → (d : ℕ) → d < p.N → (x : Val) × InI (chunk s x) (u d z)

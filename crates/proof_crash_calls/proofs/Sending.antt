@@ -12,7 +12,8 @@ use Rattle.spec.specs.declared.Params.{Params}
 use Rattle.spec.specs.declared.State.{State}
 use Rattle.spec.specs.Drives.{View, Store, store_view_of, store_all, header_stores, empty_count, new_seg}
 use Rattle.spec.specs.Lists.{all, any, keep, is_nil, index_of}
-use Rattle.spec.specs.Memory.{slot_count, slots, stripe_in, filled_in_of, landed_in, is_free, is_full, is_filling, in_flight, free_slot, filling_slot, has_filling, slotOk, state_ok, set_open, begin_stripe}
+use Rattle.spec.specs.Memory.{slot_count, slots, stripe_in, filled_in_of, landed_in, is_free, is_full, is_filling, in_flight, free_slot, filling_slot, has_filling}
+use Rattle.spec.specs.Memory.{slotOk, state_ok, set_open, begin_stripe}
 use Rattle.spec.specs.Params.{data_count, place_block, place_drive, parity_count}
 use Rattle.spec.specs.Write.{must_open, opens, no_serial, other_group, must_wait, opened_by, slot_for, begun_by}
 use Rattle.law_basic.specs.Geometry.{Ranged, data_count-low}
@@ -81,7 +82,8 @@ slots_ok p st e i il = split (all_has (slotOk p st) slots (slots-part p st e) i 
 
 -- ---- the eighths
 
-pub filling_slot_lem : (p : Params) (st : State) → has_filling p st ≡ true → (filling_slot p st < 8) × (in_use_of st (filling_slot p st) ≡ true) × (filled_in_of st (filling_slot p st) < data_count p)
+pub filling_slot_lem : (p : Params) (st : State) → has_filling p st ≡ true → (filling_slot p st < 8) × (in_use_of st (filling_slot p st) ≡ true)
+    × (filled_in_of st (filling_slot p st) < data_count p)
 unfolding has_filling filling_slot
 filling_slot_lem p st e =
     let q : (index_of (is_filling p st) slots < 8) × (is_filling p st (index_of (is_filling p st) slots) ≡ true) = slot_found (is_filling p st) e in
@@ -102,7 +104,8 @@ free_slot_lem st b = go (test (any (is_free st) slots))
     eight = unfold slots slot_count in length-below 8
 
     go : Test (any (is_free st) slots) → (index_of (is_free st) slots < 8) × (in_use_of st (index_of (is_free st) slots) ≡ false)
-    go (yes! e) = let q : (index_of (is_free st) slots < 8) × (is_free st (index_of (is_free st) slots) ≡ true) = slot_found (is_free st) e in (q.0, free_unused st (index_of (is_free st) slots) q.1)
+    go (yes! e) = let q : (index_of (is_free st) slots < 8)
+        × (is_free st (index_of (is_free st) slots) ≡ true) = slot_found (is_free st) e in (q.0, free_unused st (index_of (is_free st) slots) q.1)
     go (no! e) = absurd (let z : ⊥ = omega (arith, b, keep_rest (is_free st) slots e, eight) in z)
 
 pub none_flying : (st : State) → is_nil (in_flight st) ≡ true → (i : ℕ) → i < 8 → in_use_of st i ≡ false
@@ -340,7 +343,8 @@ module _ (p : Params) (h : Ranged p) (off : List ℕ) (g : Ghost) (v : View) (u 
     (I : Inv (par_of p h off) (mst g u a c (run M))) (on : OnDrives p h off g v u) (A : Asked p v st) where
   module _ (not-filling : has_filling p st ≡ false) where
     waits? : ((leb slot_count (length (in_flight st)) || (must_open p st && not (is_nil (in_flight st)))) || (not (must_open p st) && any (other_group p st) (in_flight st))) ≡ false
-    waits? = and_fails (not (has_filling p st)) ((leb slot_count (length (in_flight st)) || (must_open p st && not (is_nil (in_flight st)))) || (not (must_open p st) && any (other_group p st) (in_flight st)))
+    waits? = and_fails (not (has_filling p st))
+        ((leb slot_count (length (in_flight st)) || (must_open p st && not (is_nil (in_flight st)))) || (not (must_open p st) && any (other_group p st) (in_flight st)))
         (unfold must_wait in A.waits) (ap not not-filling)
 
     few_in_flight : (leb slot_count (length (in_flight st)) || (must_open p st && not (is_nil (in_flight st)))) ≡ false

@@ -68,7 +68,8 @@ pub victim_is : (p : Params) (v : View) (tb : List ℕ) (w : Victim) → victim 
 unfolding victim
 victim_is p v tb w e = ⊎_elim (λ (q : none ≡ some w). opt_none q)
     (λ (q : Has w (map (victim_of p (places_in p tb)) (keep (sealed_in p v 0) (remaining p v 0)))).
-    let a : (z : Seg) × Has z (keep (sealed_in p v 0) (remaining p v 0)) × (w ≡ victim_of p (places_in p tb) z) = map_has (victim_of p (places_in p tb)) w (keep (sealed_in p v 0) (remaining p v 0)) q in
+    let a : (z : Seg) × Has z (keep (sealed_in p v 0) (remaining p v 0))
+    × (w ≡ victim_of p (places_in p tb) z) = map_has (victim_of p (places_in p tb)) w (keep (sealed_in p v 0) (remaining p v 0)) q in
     let b : Has a.0 (remaining p v 0) × (sealed_in p v 0 a.0 ≡ true) = keep_has (sealed_in p v 0) a.0 (remaining p v 0) a.1 in
     let s : w.segment ≡ a.0 = ap (λ (x : Victim). x.segment) a.2 ∙ of a.0 in
     record {

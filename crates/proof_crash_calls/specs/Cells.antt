@@ -10,7 +10,8 @@ use Rattle.std.specs.Int.Bits.{bit_or, or_zero_r}
 use Rattle.spec.specs.declared.State.{State}
 use Rattle.spec.specs.Layout.{mk_rec}
 use Rattle.spec.specs.Lists.{only, is_in}
-use Rattle.spec.specs.Memory.{cell, stripe_in, filled_in_of, landed_in, is_write, entry_in_of, offset_in, is_free, set_stamp, set_open, set_closed, begin_stripe, add_entry, landed_mask, mark_landed, free_stripe}
+use Rattle.spec.specs.Memory.{cell, stripe_in, filled_in_of, landed_in, is_write, entry_in_of, offset_in, is_free, set_stamp, set_open, set_closed, begin_stripe}
+use Rattle.spec.specs.Memory.{add_entry, landed_mask, mark_landed, free_stripe}
 use Rattle.law_basic.specs.Mask.{is_in_with}
 use Rattle.law_drives.specs.Slots.{cell-low}
 use Rattle.proof_crash_machine.specs.Exec.{or_1, or_2}
@@ -114,7 +115,8 @@ module _ (st : State) (L : RowsLong st) (i : ℕ) (il : i < 8) (a t w : ℕ) (kl
 
   pub add_write_new : w ≡ 1 → is_write (add_entry st i a t w) i (filled_in_of st i) ≡ true
   add_write_new e =
-      writes_now (filled_in_of st i) ∙ ap (λ (n : ℕ). is_in (bit_or (get_or st.writes i 0) n) (filled_in_of st i)) (ap (λ (n : ℕ). n * only (filled_in_of st i)) e ∙ one-mul (only (filled_in_of st i)))
+      writes_now (filled_in_of st i) ∙ ap (λ (n : ℕ). is_in (bit_or (get_or st.writes i 0) n) (filled_in_of st i))
+      (ap (λ (n : ℕ). n * only (filled_in_of st i)) e ∙ one-mul (only (filled_in_of st i)))
       ∙ is_in_with (get_or st.writes i 0) (filled_in_of st i) (filled_in_of st i) kl kl
       ∙ or_1 (eqb (filled_in_of st i) (filled_in_of st i)) (is_in (get_or st.writes i 0) (filled_in_of st i)) (eqb_self (filled_in_of st i))
 

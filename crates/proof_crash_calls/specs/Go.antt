@@ -47,7 +47,8 @@ run_append : (p : Par) (σ τ υ : m-State) → StepsTo p σ τ → StepsTo p τ
 run_append p _ _ υ (stop σ) q = q
 run_append p _ _ υ (then σ τ ρ s r) q = then σ τ υ s (run_append p τ ρ υ r q)
 
-track-append : (p : Par) (σ τ υ : m-State) (r : StepsTo p σ τ) (q : StepsTo p τ υ) (T : Track) → run_track p σ υ (run_append p σ τ υ r q) T ≡ run_track p τ υ q (run_track p σ τ r T)
+track-append : (p : Par) (σ τ υ : m-State) (r : StepsTo p σ τ) (q : StepsTo p τ υ) (T : Track)
+    → run_track p σ υ (run_append p σ τ υ r q) T ≡ run_track p τ υ q (run_track p σ τ r T)
 unfolding run_append
 track-append p _ _ υ (stop σ) q T = refl
 track-append p _ _ υ (then σ τ ρ s r) q T = track-append p τ ρ υ r q (track p σ τ s T)

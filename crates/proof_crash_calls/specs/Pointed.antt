@@ -29,7 +29,8 @@ module _ (p : Params) (tb : List ℕ) (long : length tb ≡ addresses_len p) (a 
   pub place_set : q < 256 ^ 4 → place_at_of (set_place tb a q) a ≡ q
   unfolding place_at_of set_place
   place_set b =
-      ap (λ (n : ℕ). be_of (part (4 * a) n (splice tb (4 * a) (to_be 4 q)))) (sym (length-to_be 4 q)) ∙ ap be_of (part-splice tb (4 * a) (to_be 4 q) (set_fits p tb a q long al)) ∙ be_of-to_be 4 q b
+      ap (λ (n : ℕ). be_of (part (4 * a) n (splice tb (4 * a) (to_be 4 q)))) (sym (length-to_be 4 q))
+      ∙ ap be_of (part-splice tb (4 * a) (to_be 4 q) (set_fits p tb a q long al)) ∙ be_of-to_be 4 q b
 
   pub place_other : (b : ℕ) → b < p.L → b ≢ a → place_at_of (set_place tb a q) b ≡ place_at_of tb b
   unfolding place_at_of set_place

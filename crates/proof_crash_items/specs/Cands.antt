@@ -165,7 +165,8 @@ module _ (p : Params) (r : Ranged p) (off : List ℕ) (g : Ghost) (v : View) (u 
       (has_map (cand_of p m (G z) s) (data_drives p s) d (has_data_drive p r s d l n)))
 
   -- its address and stamp are those of the piece
-  pub cand_value : (z : Seg) (s d : ℕ) → ((cand_of p m (G z) s d).address ≡ (piece_at p r off g v u k m c z s d).addr) × ((cand_of p m (G z) s d).stamp ≡ (piece_at p r off g v u k m c z s d).stamp)
+  pub cand_value : (z : Seg) (s d : ℕ) → ((cand_of p m (G z) s d).address ≡ (piece_at p r off g v u k m c z s d).addr)
+      × ((cand_of p m (G z) s d).stamp ≡ (piece_at p r off g v u k m c z s d).stamp)
   unfolding cand_of piece_at piece_value value_of
   cand_value z s d = (ap (λ (x : Rec). x.address) (sym (piece_rec p m (G z) s d)), ap (λ (x : Rec). x.stamp) (sym (piece_rec p m (G z) s d)))
 

@@ -10,7 +10,8 @@ use native.Mathlib.Omega.{arith}
 use Rattle.std.proofs.Math.Dec.{eqb}
 use Rattle.spec.specs.declared.Params.{Params}
 use Rattle.spec.specs.declared.Seg.{Seg}
-use Rattle.spec.specs.Drives.{View, Zone, zone_at, pointer_at, Store, put_zone, store_view_of, store_all, is_good, good_zones, few_good, empty_zones, empty_count, new_seg, zone_on, zones_in, header_stores, zero_spare}
+use Rattle.spec.specs.Drives.{View, Zone, zone_at, pointer_at, Store, put_zone, store_view_of, store_all, is_good, good_zones, few_good, empty_zones, empty_count}
+use Rattle.spec.specs.Drives.{new_seg, zone_on, zones_in, header_stores, zero_spare}
 use Rattle.spec.specs.Drives.Store.{put}
 use Rattle.spec.specs.Layout.{header_block}
 use Rattle.spec.specs.Lists.{any, below, keep, first_or, is_in, is_nil}

@@ -437,7 +437,8 @@ module _ (p : Params) (r : Ranged p) (off : List ℕ) (g : Ghost) (v : View) (u 
   segment_fine : (z : Seg) → Has z (remaining p v m) → segment_fault p v m (segments p v m) (G z) ≡ false
   unfolding segment_fault clashes
   segment_fine z i =
-      ap₂ ◌||◌ (ap₂ ◌||◌ (ap₂ ◌||◌ (ap₂ ◌||◌ (ap₂ ◌||◌ (ap₂ ◌||◌ (ap₂ ◌||◌ (ap₂ ◌||◌ (ap₂ ◌||◌ (header_fine z i) (own_fine z i)) (names_fine z i)) (clash_fine z i)) (twice_fine z i))
+      ap₂ ◌||◌ (ap₂ ◌||◌ (ap₂ ◌||◌ (ap₂ ◌||◌ (ap₂ ◌||◌
+      (ap₂ ◌||◌ (ap₂ ◌||◌ (ap₂ ◌||◌ (ap₂ ◌||◌ (header_fine z i) (own_fine z i)) (names_fine z i)) (clash_fine z i)) (twice_fine z i))
       (serials_fine z i)) (stripes_fine z i)) (addresses_fine z i)) (footers_fine z i))
       (and-false (not (G z).full) (leb 2 (length (unsealed (segments p v m)))) (lt-leb 2 (length (unsealed (segments p v m))) (omega (arith, one-unsealed))))
 

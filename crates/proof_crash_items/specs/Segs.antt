@@ -183,7 +183,8 @@ module _ (p : Params) (r : Ranged p) (off : List ℕ) (g : Ghost) (v : View) (u 
     pub seg_bytes : {n : ℕ} (z : Seg) → SegAt p v u m z n → (d : ℕ) → d < p.N → is_in m d ≡ false → ZoneBytes p d (zone_at v d (zone_on z d))
     seg_bytes z b d l q = zone_bytes d (zone_on z d) l (trusted d l q) (b.low d l q) (b.good d l q)
 
-    pub seg_pointer_low : {n : ℕ} (z : Seg) → SegAt p v u m z n → (d : ℕ) → d < p.N → is_in m d ≡ false → (zone_at v d (zone_on z d)).pointer ≤ length (zone_at v d (zone_on z d)).blocks
+    pub seg_pointer_low : {n : ℕ} (z : Seg) → SegAt p v u m z n → (d : ℕ) → d < p.N → is_in m d ≡ false
+        → (zone_at v d (zone_on z d)).pointer ≤ length (zone_at v d (zone_on z d)).blocks
     seg_pointer_low z b d l q = zone_pointer_low d (zone_on z d) l (trusted d l q) (b.low d l q) (b.good d l q)
 
     pub seg_len : {n : ℕ} (z : Seg) → SegAt p v u m z n → (d : ℕ) → d < p.N → is_in m d ≡ false → length (u d n) ≡ pointer_at v d (zone_on z d)

@@ -116,7 +116,8 @@ module _ (p : Params) (r : Ranged p) (off : List ℕ) (g : Ghost) (v : View) (u 
       ∙ cond_false (is_in m d) [] (map (record_in p (sealed_in p v m z) (get_or (map (λ d. zone_at v d (zone_on z d)) (below p.N)) d no_zone))
       (below (data_stored p (get_or (map (λ d. zone_at v d (zone_on z d)) (below p.N)) d no_zone)))) n
       ∙ ap (λ (q : Zone). map (record_in p (sealed_in p v m z) q) (below (data_stored p q))) (zones_by z d l)
-      ∙ map-below_same (record_in p (sealed_in p v m z) (zone_at v d (zone_on z d))) (λ o. record_of_of (block_in_of (zone_at v d (zone_on z d)) (suc o)).spare) (data_stored p (zone_at v d (zone_on z d)))
+      ∙ map-below_same (record_in p (sealed_in p v m z) (zone_at v d (zone_on z d))) (λ o. record_of_of (block_in_of (zone_at v d (zone_on z d)) (suc o)).spare)
+      (data_stored p (zone_at v d (zone_on z d)))
       (λ o i. record_by_spare z d o (sealed_in p v m z) refl b l n (stored-below p (zone_at v d (zone_on z d)) o i).0)
 
   -- ---- chunks
@@ -146,7 +147,8 @@ module _ (p : Params) (r : Ranged p) (off : List ℕ) (g : Ghost) (v : View) (u 
       ∙ get_d_spare_recs p (zone_at v d (zone_on z d)) (offset_on (G z) d s) (mk_rec 0 0 0) (offset_on_holds z s d b l n e).0
 
   pub stored_piece_holds : {nm : ℕ} (z : Seg) (s d : ℕ) → SegAt p v u m z nm → d < p.N → is_in m d ≡ false → has_chunk (G z) s d ≡ true
-      → stored_piece (G z) s d ≡ mk_piece (block_in_of (zone_at v d (zone_on z d)) (suc (offset_on (G z) d s))).block (record_of_of (block_in_of (zone_at v d (zone_on z d)) (suc (offset_on (G z) d s))).spare)
+      → stored_piece (G z) s d ≡ mk_piece (block_in_of (zone_at v d (zone_on z d)) (suc (offset_on (G z) d s))).block
+      (record_of_of (block_in_of (zone_at v d (zone_on z d)) (suc (offset_on (G z) d s))).spare)
   unfolding stored_piece stored_rec
   stored_piece_holds z s d b l n e = ap₂ mk_piece
       (ap₂ (λ (q : Zone) (i : ℕ). (get_or q.blocks i no_chunk).block) (zones_by z d l) (let i : 1 + offset_on (G z) d s ≡ suc (offset_on (G z) d s) = omega arith in i))

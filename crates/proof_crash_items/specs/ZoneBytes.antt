@@ -159,7 +159,8 @@ module _ (p : Params) (h : Ranged p) (d : ℕ) (q : Zone) (s : ZoneShape p q) wh
   bytes_put _ _ (header zs ser cop e x y a c) f = record {
     low = omega (arith, e, pointer_put (header_block p d zs ser cop) zero_spare, capacity_few p h);
     head =
-        λ l. rw new (sym (λ i. mk_chunk (header_block p d (header_zones_named p d zs ser cop x y i) (header_serial_holds p d zs ser cop x a i) (header_copied_holds p d zs ser cop x c i)) zero_spare));
+        λ l. rw new (sym (λ i. mk_chunk (header_block p d (header_zones_named p d zs ser cop x y i) (header_serial_holds p d zs ser cop x a i)
+        (header_copied_holds p d zs ser cop x c i)) zero_spare));
     serials = λ l. rw new (
       subst (λ (n : ℕ). n < 256 ^ 8) (sym (header_serial_holds p d zs ser cop x a)) a,
       subst (λ (n : ℕ). n < 256 ^ 8) (sym (header_copied_holds p d zs ser cop x c)) c,

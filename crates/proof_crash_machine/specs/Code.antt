@@ -77,7 +77,8 @@ module _ (N : ℕ) (q : ℕ → ℕ) (on : (s : ℕ) → q s < N) where
 
   pub xenc_same : (s : ℕ) (f h : ℕ → Val) → ((d : ℕ) → d < N → is_par_holds s d ≡ false → f d ≡ h d) → (d : ℕ) → d < N → xenc s f d ≡ xenc s h d
   xenc_same s f h e d l = ⊎_elim
-      (λ (k : is_par_holds s d ≡ true). xenc_par s f d k ∙ xor_n_same N (blank (is_par_holds s) f) (blank (is_par_holds s) h) (λ i b. both i b (two (is_par_holds s i))) ∙ sym (xenc_par s h d k))
+      (λ (k : is_par_holds s d ≡ true). xenc_par s f d k
+      ∙ xor_n_same N (blank (is_par_holds s) f) (blank (is_par_holds s) h) (λ i b. both i b (two (is_par_holds s i))) ∙ sym (xenc_par s h d k))
       (λ (k : is_par_holds s d ≡ false). xenc_data s f d k ∙ e d l k ∙ sym (xenc_data s h d k)) (two (is_par_holds s d))
     where
       both : (i : ℕ) → i < N → (is_par_holds s i ≡ true) ⊎ (is_par_holds s i ≡ false) → blank (is_par_holds s) f i ≡ blank (is_par_holds s) h i
@@ -87,7 +88,8 @@ module _ (N : ℕ) (q : ℕ → ℕ) (on : (s : ℕ) → q s < N) where
   -- the exclusive or of an encoded stripe is 0
   pub xenc_zero : (s : ℕ) (f : ℕ → Val) → xor_n N (xenc s f) ≡ 𝟘
   xenc_zero s f =
-      xor_n-put N (q s) (xenc s f) (blank (is_par_holds s) f) (on s) (λ d l n. xenc_data s f d (not_par s d n) ∙ sym (blank_out (is_par_holds s) f d (not_par s d n))) (blank_in (is_par_holds s) f (q s) (is_par s))
+      xor_n-put N (q s) (xenc s f) (blank (is_par_holds s) f) (on s) (λ d l n. xenc_data s f d (not_par s d n) ∙ sym (blank_out (is_par_holds s) f d (not_par s d n)))
+      (blank_in (is_par_holds s) f (q s) (is_par s))
       ∙ ap (λ (x : Val). x ⊕ xor_n N (blank (is_par_holds s) f)) (xenc_par s f (q s) (is_par s)) ∙ ⊕-self (xor_n N (blank (is_par_holds s) f))
 
   pub xdec_law : (s : ℕ) (m : Mask) (f h : ℕ → Val) → count N m ≤ 1 → ((d : ℕ) → d < N → m d ≡ false → f d ≡ xenc s h d) → (d : ℕ) → d < N → m d ≡ true
@@ -124,4 +126,5 @@ module _ (N : ℕ) (q : ℕ → ℕ) (on : (s : ℕ) → q s < N) where
       go : Dec (d ≡ q s) → f d ≡ xenc s f d
       go (no n) = sym (xenc_data s f d (not_par s d n))
       go (yes i) = rw i (sym (xenc_par s f (q s) (is_par s) ∙ ⊕-left (xor_n N (blank (is_par_holds s) f)) (f (q s)) (f (q s))
-          (sym (xor_n-put N (q s) f (blank (is_par_holds s) f) (on s) (λ k b n. sym (blank_out (is_par_holds s) f k (not_par s k n))) (blank_in (is_par_holds s) f (q s) (is_par s))) ∙ e ∙ sym (⊕-self (f (q s))))))
+          (sym (xor_n-put N (q s) f (blank (is_par_holds s) f) (on s) (λ k b n. sym (blank_out (is_par_holds s) f k (not_par s k n)))
+          (blank_in (is_par_holds s) f (q s) (is_par s))) ∙ e ∙ sym (⊕-self (f (q s))))))

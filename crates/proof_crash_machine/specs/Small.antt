@@ -41,11 +41,13 @@ partly (suc (suc (suc d))) z = []
 
 -- M8: it doesn't count with none missing, and counts with drive 2 missing
 m8_none : best_stamp small partly (λ d. false) (λ k. k) 5 ≡ 0
-unfolding small partly best_stamp in_segment in_stripe in_data max_n when rem_b left_b all_b count_b has_stripe stripe_value ser_of cop_of low low_from val_of value_here_holds xor_code xdec blank xor_n 𝟘 ◌⊕◌
+unfolding small partly best_stamp in_segment in_stripe in_data max_n when rem_b left_b all_b count_b has_stripe stripe_value ser_of cop_of low low_from val_of
+    value_here_holds xor_code xdec blank xor_n 𝟘 ◌⊕◌
 m8_none = refl
 
 m8_missing : best_stamp small partly (λ d. eqb d 2) (λ k. k) 5 ≡ 2
-unfolding small partly best_stamp in_segment in_stripe in_data max_n when rem_b left_b all_b count_b has_stripe stripe_value ser_of cop_of low low_from val_of value_here_holds xor_code xdec blank xor_n 𝟘 ◌⊕◌
+unfolding small partly best_stamp in_segment in_stripe in_data max_n when rem_b left_b all_b count_b has_stripe stripe_value ser_of cop_of low low_from val_of
+    value_here_holds xor_code xdec blank xor_n 𝟘 ◌⊕◌
 m8_missing = refl
 
 -- M7: address 0 in stripe 0 (stamp 1) and in stripe 1 (stamp 3), both whole, stripe 1 landed first: stamp 3 is read, whichever drive is missing
@@ -60,5 +62,6 @@ both (suc (suc (suc d))) z = []
 
 m7 : (best_stamp small both (λ d. false) (λ k. k) 0 ≡ 3) × (best_stamp small both (λ d. eqb d 0) (λ k. k) 0 ≡ 3) × (best_stamp small both (λ d. eqb d 1) (λ k. k) 0 ≡ 3)
     × (best_stamp small both (λ d. eqb d 2) (λ k. k) 0 ≡ 3)
-unfolding small both best_stamp in_segment in_stripe in_data max_n when rem_b left_b all_b count_b has_stripe stripe_value ser_of cop_of low low_from val_of value_here_holds xor_code xdec blank xor_n 𝟘 ◌⊕◌
+unfolding small both best_stamp in_segment in_stripe in_data max_n when rem_b left_b all_b count_b has_stripe stripe_value ser_of cop_of low low_from val_of
+    value_here_holds xor_code xdec blank xor_n 𝟘 ◌⊕◌
 m7 = (refl, refl, refl, refl)

@@ -131,7 +131,8 @@ module _ (p : Params) (r : Ranged p) (off : List ℕ) (g₀ : Ghost) (m : ℕ) (
     src = λ n j. get_or (counted p m (segment_of p v m (named_seg p g n))) j 0;
     E = λ n j e. piece_at p r off g v u k m c (named_seg p g n) (get_or (counted p m (segment_of p v m (named_seg p g n))) j 0) e;
     foots = λ n. plan_feet (named_seg p g n);
-    st = λ n rr j l. subst (λ (y : ℕ). Stripe (par_of p r off) u (is_in m) y (src (named_seg p g n) j) (λ e. piece_at p r off g v u k m c (named_seg p g n) (src (named_seg p g n) j) e)) (name n rr)
+    st = λ n rr j l. subst (λ (y : ℕ). Stripe (par_of p r off) u (is_in m) y (src (named_seg p g n) j)
+        (λ e. piece_at p r off g v u k m c (named_seg p g n) (src (named_seg p g n) j) e)) (name n rr)
         (st? (named_seg p g n) (has_remaining p r off g v u k m c n rr) j l);
     every = λ n s f rr q. every? (named_seg p g n) s f (has_remaining p r off g v u k m c n rr)
         (subst (λ (y : ℕ). Stripe (par_of p r off) u (is_in m) y s f) (sym (name n rr)) q);

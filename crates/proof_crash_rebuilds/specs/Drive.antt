@@ -329,7 +329,8 @@ module _ (p : Params) (r : Ranged p) (off : List ℕ) (v : View) (u : ItemView) 
   ss = rebuild_stores p v d (segments p v (named d))
 
   rises : Rising (serials (by_serial (segments p v (named d))))
-  rises = drive_serial_rising gs (unfold segments in differ (remaining p v (named d)) (λ z i. i) (remaining-rising p v (named d) (drive_here p r off (with_un g (is_in (named d))) v u k_d (named d) c_d)))
+  rises = drive_serial_rising gs (unfold segments in differ (remaining p v (named d)) (λ z i. i)
+      (remaining-rising p v (named d) (drive_here p r off (with_un g (is_in (named d))) v u k_d (named d) c_d)))
     where
       differ : (l : List Seg) → ((z : Seg) → Has z l → Has z (remaining p v (named d))) → Rising (seg_zones (low_drive p (named d)) l) → Differ (map (segment_of p v (named d)) l)
       differ [] h q = tt
@@ -477,7 +478,8 @@ module _ (p : Params) (r : Ranged p) (off : List ℕ) (v : View) (u : ItemView) 
       let x : Segment = segment_of p v (named d) (named_seg p (with_un g (is_in (named d))) n) in
       let e : (segment_of p v (named d) (named_seg p (with_un g (is_in (named d))) n)).serial ≡ n = name_of_holds (named_seg p (with_un g (is_in (named d))) n) i ∙ own in
       subst (λ (t : ℕ). u_e d t ≡ u₁ d t ++ its (segment_of p v (named d) (named_seg p (with_un g (is_in (named d))) n))) e
-      (puts-at its d (by_serial gs) rises u₁ (segment_of p v (named d) (named_seg p (with_un g (is_in (named d))) n)) (in_serial gs (segment_of p v (named d) (named_seg p (with_un g (is_in (named d))) n))
+      (puts-at its d (by_serial gs) rises u₁ (segment_of p v (named d) (named_seg p (with_un g (is_in (named d))) n))
+      (in_serial gs (segment_of p v (named d) (named_seg p (with_un g (is_in (named d))) n))
       (unfold segments in has_map (segment_of p v (named d)) (remaining p v (named d)) (named_seg p (with_un g (is_in (named d))) n) i)))
       ∙ ap (λ (l : List Item). l ++ its (segment_of p v (named d) (named_seg p (with_un g (is_in (named d))) n))) (drive_off_here u d n)
       ∙ ap (zone_items p r off (with_un g (is_in (named d))) v u k_d (named d) c_d d) (seg_is p v (named d) (named_seg p (with_un g (is_in (named d))) n))
@@ -490,7 +492,8 @@ module _ (p : Params) (r : Ranged p) (off : List ℕ) (v : View) (u : ItemView) 
       gone i =
           let (x, j, e) = map_has (λ (x : Segment). x.serial) n (by_serial gs) i in
           let (z, k, w) = drive_seg_of x j in
-          h (subst (R (par_of p r off) g.hd u (is_in (named d))) (sym (e ∙ ap (λ (y : Segment). y.serial) w ∙ name_of_holds z k)) (seg-R p r off (with_un g (is_in (named d))) v u k_d (named d) c_d z k))
+          h (subst (R (par_of p r off) g.hd u (is_in (named d))) (sym (e ∙ ap (λ (y : Segment). y.serial) w ∙ name_of_holds z k))
+          (seg-R p r off (with_un g (is_in (named d))) v u k_d (named d) c_d z k))
 
   same_u : (e y : ℕ) → e < p.N → is_in (named d) e ≡ false → u e y ≡ u_e e y
   same_u e y l n = sym (all-puts_drive its d (by_serial gs) u₁ e y (named_out p r d e l n) ∙ off_other u d e y (named_out p r d e l n))

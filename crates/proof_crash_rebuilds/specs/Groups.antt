@@ -76,7 +76,8 @@ module _ (p : Params) (r : Ranged p) (off : List ℕ) (g : Ghost) (v : View) (u 
     stripe_once : (i j : ℕ) → i < data_stored p (zone_at v d (zone_on z d)) → j < data_stored p (zone_at v d (zone_on z d))
         → (record_of_of (block_in_of (zone_at v d (zone_on z d)) (suc i)).spare).stripe ≡ (record_of_of (block_in_of (zone_at v d (zone_on z d)) (suc j)).spare).stripe → i ≡ j
     stripe_once i j a b e =
-        let w : suc i ≡ suc j = (zone_facts p r off g v u k d nm l (trusted p r off g v u k m c d l n)).once (suc i) (suc j) (record_of_of (block_in_of (zone_at v d (zone_on z d)) (suc j)).spare).stripe
+        let w : suc i ≡ suc j = (zone_facts p r off g v u k d nm l (trusted p r off g v u k m c d l n)).once (suc i) (suc j)
+        (record_of_of (block_in_of (zone_at v d (zone_on z d)) (suc j)).spare).stripe
         (value_of (block_in_of (zone_at v d (zone_on z d)) (suc i)).block (record_of_of (block_in_of (zone_at v d (zone_on z d)) (suc i)).spare))
         (value_of (block_in_of (zone_at v d (zone_on z d)) (suc j)).block (record_of_of (block_in_of (zone_at v d (zone_on z d)) (suc j)).spare))
         (subst (λ (s : ℕ). Off (u d nm) (suc i)
@@ -107,7 +108,8 @@ module _ (p : Params) (r : Ranged p) (off : List ℕ) (g : Ghost) (v : View) (u 
         let uq : (record_of_of (block_in_of (zone_at v d (zone_on z d)) (suc (q * p.G + a.0))).spare).stripe ≡ t = omega (arith, a.2, (here a.0 a.1).0, (group_split t).0) in
         in_has_chunk p r off g v u k m c z t d
         (value_of (block_in_of (zone_at v d (zone_on z d)) (suc (q * p.G + a.0))).block (record_of_of (block_in_of (zone_at v d (zone_on z d)) (suc (q * p.G + a.0))).spare)) zb l n
-        (subst (λ (s : ℕ). InI (chunk s (value_of (block_in_of (zone_at v d (zone_on z d)) (suc (q * p.G + a.0))).block (record_of_of (block_in_of (zone_at v d (zone_on z d)) (suc (q * p.G + a.0))).spare)))
+        (subst (λ (s : ℕ). InI (chunk s (value_of (block_in_of (zone_at v d (zone_on z d)) (suc (q * p.G + a.0))).block
+        (record_of_of (block_in_of (zone_at v d (zone_on z d)) (suc (q * p.G + a.0))).spare)))
         (u d nm)) uq
         (off_in (u d nm) (suc (q * p.G + a.0))
         (chunk (record_of_of (block_in_of (zone_at v d (zone_on z d)) (suc (q * p.G + a.0))).spare).stripe
@@ -115,13 +117,15 @@ module _ (p : Params) (r : Ranged p) (off : List ℕ) (g : Ghost) (v : View) (u 
         (ofs (q * p.G + a.0) (inside a.0 a.1))))
       where
         in-group? : (q o i : ℕ) → i < p.G → o ≡ q * p.G + i → o < data_stored p (zone_at v d (zone_on z d))
-            → (q * p.G ≤ (record_of_of (block_in_of (zone_at v d (zone_on z d)) (suc o)).spare).stripe) × ((record_of_of (block_in_of (zone_at v d (zone_on z d)) (suc o)).spare).stripe < q * p.G + p.G)
+            → (q * p.G ≤ (record_of_of (block_in_of (zone_at v d (zone_on z d)) (suc o)).spare).stripe)
+            × ((record_of_of (block_in_of (zone_at v d (zone_on z d)) (suc o)).spare).stripe < q * p.G + p.G)
         in-group? q o i b e w =
             let x : group p (record_of_of (block_in_of (zone_at v d (zone_on z d)) (suc o)).spare).stripe ≡ q = (fact o w).2 ∙ ap (group p) e ∙ group_at q i b in
             let y : (group p (record_of_of (block_in_of (zone_at v d (zone_on z d)) (suc o)).spare).stripe * p.G + (record_of_of
             (block_in_of (zone_at v d (zone_on z d)) (suc o)).spare).stripe % p.G
             ≡ (record_of_of (block_in_of (zone_at v d (zone_on z d)) (suc o)).spare).stripe)
-            × ((record_of_of (block_in_of (zone_at v d (zone_on z d)) (suc o)).spare).stripe % p.G < p.G) = group_split (record_of_of (block_in_of (zone_at v d (zone_on z d)) (suc o)).spare).stripe in
+            × ((record_of_of (block_in_of (zone_at v d (zone_on z d)) (suc o)).spare).stripe % p.G < p.G) = group_split
+            (record_of_of (block_in_of (zone_at v d (zone_on z d)) (suc o)).spare).stripe in
             let uq : group p (record_of_of (block_in_of (zone_at v d (zone_on z d)) (suc o)).spare).stripe * p.G ≡ q * p.G = ap (λ (n : ℕ). n * p.G) x in
             (omega (arith, y.0, uq), omega (arith, y.0, y.1, uq))
 

@@ -11,7 +11,8 @@ use native.Mathlib.Omega.{arith}
 use Rattle.std.proofs.Math.Dec.{eqb}
 use Rattle.std.proofs.Math.ListN.{length}
 use Rattle.spec.specs.declared.Params.{Params}
-use Rattle.spec.specs.Drives.{Zone, no_zone, View, zone_at, pointer_at, Store, put_zone, store_view_of, store_all, zone_on, sealed_in, data_stored, footers_of, zero_spare, footer_stores, chunk_at, is_good, no_chunk}
+use Rattle.spec.specs.Drives.{Zone, no_zone, View, zone_at, pointer_at, Store, put_zone, store_view_of, store_all, zone_on, sealed_in, data_stored, footers_of}
+use Rattle.spec.specs.Drives.{zero_spare, footer_stores, chunk_at, is_good, no_chunk}
 use Rattle.spec.specs.Drives.Store.{put}
 use Rattle.spec.specs.Faults.{footers_stored}
 use Rattle.spec.specs.Layout.{record_of_of, footer_block, header_serial}
@@ -267,7 +268,8 @@ module _ (p : Params) (r : Ranged p) (off : List ℕ) (g₀ : Ghost) (a : List V
       (drive_step starts d w dl k).1,
     )
 
-    pub feet_sound : ((d : ℕ) → d < p.N → pointer_at v d (zone_on o d) ≡ suc (p.S + footers_stored p (zone_at v d (zone_on o d)))) → Footing v → AllSound p v (flat feet_on_holds (below p.N))
+    pub feet_sound : ((d : ℕ) → d < p.N → pointer_at v d (zone_on o d) ≡ suc (p.S + footers_stored p (zone_at v d (zone_on o d)))) → Footing v
+        → AllSound p v (flat feet_on_holds (below p.N))
     unfolding below
     feet_sound starts k =
         runs_sound p Upto feet_on_holds p.N (drive_sound starts) 0 p.N (omega arith) v
@@ -317,7 +319,8 @@ module _ (p : Params) (r : Ranged p) (off : List ℕ) (g : Ghost) (v : View) (u 
   whole_pointers d l =
       let n : is_in 0 d ≡ false = far_off p r off g v u k d l in
       let has : (t : ℕ) → t < p.S → has_chunk G t d ≡ true = λ t b. (counted_has p r off g v u k.on 0 (none_choice p r off g v u k) o t (all-count t b)).1 d l n in
-      let at : (t : ℕ) → t < p.S → (offset_on G d t < data_stored p (zone_at v d (zone_on o d))) × ((record_of_of (block_in_of (zone_at v d (zone_on o d)) (suc (offset_on G d t))).spare).stripe ≡ t) =
+      let at : (t : ℕ) → t < p.S → (offset_on G d t < data_stored p (zone_at v d (zone_on o d)))
+      × ((record_of_of (block_in_of (zone_at v d (zone_on o d)) (suc (offset_on G d t))).spare).stripe ≡ t) =
       λ t b. offset_on_holds p r off g v u k.on 0 (none_choice p r off g v u k) o t d ob l n (has t b) in
       let q : p.S ≤ data_stored p (zone_at v d (zone_on o d)) = pigeon p.S (data_stored p (zone_at v d (zone_on o d))) (λ t. offset_on G d t) (λ t b. (at t b).0)
       (λ s t a b e. sym (at s a).1 ∙ ap (λ (x : ℕ). (record_of_of (block_in_of (zone_at v d (zone_on o d)) (suc x)).spare).stripe) e ∙ (at t b).1) in

@@ -206,7 +206,8 @@ module _ (p : Params) (r : Ranged p) (off : List ℕ) (g : Ghost) (v : View) (u 
             is = unfold parity_piece parity_rec in refl
 
     -- ---- values
-    pub moved_data_value : (d : ℕ) → is_data p t d ≡ true → d < p.N → piece_value (moved_on p (moved_pieces p G s t) t d) ≡ piece_value (stored_piece G s (data_drive p s (data_position p t d)))
+    pub moved_data_value : (d : ℕ) → is_data p t d ≡ true → d < p.N
+        → piece_value (moved_on p (moved_pieces p G s t) t d) ≡ piece_value (stored_piece G s (data_drive p s (data_position p t d)))
     moved_data_value d e l = ap piece_value (on_data d e l) ∙ value_renumbered t (stored_piece G s (data_drive p s (data_position p t d)))
 
     abbrev F : ℕ → Val

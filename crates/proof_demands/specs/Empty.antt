@@ -134,7 +134,8 @@ left_answer l x true = refl
 left_answer l x false = refl
 
 -- of the lent bytes
-pub accepts_empty : (p : Params) (l : Lent) (d n : ℕ) → lent_in_order p l d ≡ true → empty_disk p l.offline (lent_disk l) ≡ true → is_refused (call_bytes p l (restart d n)).answer ≡ false
+pub accepts_empty : (p : Params) (l : Lent) (d n : ℕ) → lent_in_order p l d ≡ true → empty_disk p l.offline (lent_disk l) ≡ true
+    → is_refused (call_bytes p l (restart d n)).answer ≡ false
 accepts_empty p l d n o e =
     let k = lent_disk l in
     let m = lent_memory l in

@@ -64,7 +64,8 @@ laid-step p off k m u old l (rebuild d n) nc = laid_rebuild p off k m u old l d 
 -- the stripes in flight, by any call
 flown-step : (p : Params) (off : List ℕ) (k : Disk) (m : Memory) → Run p off k m → (ws : List Pending) (old : List Segment) → Flown p off k m ws old
     → (c : Call) → is_cut_of (call_disk p off k m c).answer ≡ false
-    → Flown p off (call_disk p off k m c).drives (call_disk p off k m c).memory (pending_after c (call_disk p off k m c).answer ws) (found_after p (seen p off k) c (call_disk p off k m c).answer old)
+    → Flown p off (call_disk p off k m c).drives (call_disk p off k m c).memory (pending_after c (call_disk p off k m c).answer ws)
+    (found_after p (seen p off k) c (call_disk p off k m c).answer old)
 unfolding found_after
 flown-step p off k m u ws old f (write a [] n) nc = flown_empty p off k m u ws old f n a nc
 flown-step p off k m u ws old f (write a (x ∷ b) n) nc = flown_write p off k m u ws old f a x b n nc

@@ -130,7 +130,8 @@ module _ (p : Params) (r : Ranged p) (v : View) (st : State) (ls : Lists st) (fl
     landed_here = λ d hd q. none_landed d q;
     full_landed = λ q. none_landed _ q;
     full_ready = λ q. clash q not_full;
-    waits_are = ap (waits_of ws) (number_begun st ls i hi) ∙ none_waits ∙ sym (ap (λ (n : ℕ). map (pending_of p su fl i) (keep (is_write su i) (below n))) (filled_begun st ls i hi) ∙ nothing);
+    waits_are = ap (waits_of ws) (number_begun st ls i hi) ∙ none_waits
+        ∙ sym (ap (λ (n : ℕ). map (pending_of p su fl i) (keep (is_write su i) (below n))) (filled_begun st ls i hi) ∙ nothing);
     unmarked = λ k l h. no_write k;
   }
     where

@@ -339,7 +339,8 @@ module _ (p : Params) (off : List ℕ) (k : Disk) (m : Memory) (u : Run p off k 
 
           go : Test (seals p st i d) → after ≡ store_all store_view_of (store ∷ cond (sealed_in p after 0 z) (seal_stores p v1 z) []) v
           go (no! q) = view_open q ∙ one q
-          go (yes! q) = view_sealed q ∙ all! ∙ ap (λ (ss : List Store). store_all store_view_of (store ∷ ss) v) (sym (cond_true (sealed_in p after 0 z) (seal_stores p v1 z) [] (sealed_is ∙ q)))
+          go (yes! q) = view_sealed q ∙ all! ∙ ap (λ (ss : List Store). store_all store_view_of (store ∷ ss) v)
+              (sym (cond_true (sealed_in p after 0 z) (seal_stores p v1 z) [] (sealed_is ∙ q)))
 
       -- the stripe counts just where it completes
       counts_is : counts p 0 (segment_of p after 0 z) s ≡ completes p st i d
@@ -387,7 +388,8 @@ module _ (p : Params) (off : List ℕ) (k : Disk) (m : Memory) (u : Run p off k 
               → (b ≡ y.block) × ((flight_rec p st i d).address ≡ y.address) × ((flight_rec p st i d).stamp ≡ y.stamp)
           sent! j e q =
               let c : flight_rec p st i d ≡ entry_in_of st i j =
-              ap (flight_rec p st i) (sym q) ∙ flight_data p st i (data_drive p (stripe_in st i) j) (drive_is_data p (stripe_in st i) j) ∙ ap (entry_in_of st i) (position_drive p (stripe_in st i) j) in (
+              ap (flight_rec p st i) (sym q) ∙ flight_data p st i (data_drive p (stripe_in st i) j) (drive_is_data p (stripe_in st i) j)
+              ∙ ap (entry_in_of st i) (position_drive p (stripe_in st i) j) in (
                 ap (slot_block p fl i) (sym q) ∙ block! ∙ ap (λ (x : Pending). x.block) (sym e),
                 ap (λ (x : Rec). x.address) c ∙ address! ∙ ap (λ (x : Pending). x.address) (sym e),
                 ap (λ (x : Rec). x.stamp) c ∙ stamp! ∙ ap (λ (x : Pending). x.stamp) (sym e),
@@ -470,7 +472,9 @@ lands_say p off k m ws old d s n u f x q = go (land_ends p off k m u d s n)
         stored! e h = unfold view_in call_world landing_stores open_in in (subst (λ (y : Disk). Stored (seen p off y)) (sym e) h)
 
         acknowledges! : (call_disk p off k m (land d s n)).drives ≡ store_all (store_disk p) (land_plan p (seen p off k) m d s).stores k
-            → x ≡ cond (counts p 0 (segment_of p (seen p off (store_all (store_disk p) (land_plan p (seen p off k) m d s).stores k)) 0 (open_segment p (seen p off k) m.state)) s) (pending_in ws s) 0
-            → x ≡ cond (counts p 0 (segment_of p (view_in (on_values off) p (call_world off p (mk_world k m) (land d s n)).world) 0 (open_in (on_values off) p (mk_world k m))) s) (pending_in ws s) 0
+            → x ≡ cond (counts p 0 (segment_of p (seen p off (store_all (store_disk p) (land_plan p (seen p off k) m d s).stores k)) 0
+            (open_segment p (seen p off k) m.state)) s) (pending_in ws s) 0
+            → x ≡ cond (counts p 0 (segment_of p (view_in (on_values off) p (call_world off p (mk_world k m) (land d s n)).world) 0
+            (open_in (on_values off) p (mk_world k m))) s) (pending_in ws s) 0
         acknowledges! e h = unfold view_in call_world open_in in
             (subst (λ (y : Disk). x ≡ cond (counts p 0 (segment_of p (seen p off y) 0 (open_segment p (seen p off k) m.state)) s) (pending_in ws s) 0) (sym e) h)

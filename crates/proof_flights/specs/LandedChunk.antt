@@ -208,7 +208,8 @@ module _ (p : Params) (r : Ranged p) (v : View) (sh : Shaped p v) (st : State) (
             ∙ ap (λ (n : ℕ). get_or (zone_at v1 d (zone_on z d)).blocks (1 + n) no_chunk) (mark_offset st h.lists i hi d o d8) ∙ chunk_new
             ∙ (λ k. mk_chunk (slot_block p fl (sym x k) (sym y k)) (record_bytes (flight_rec p st (sym x k) (sym y k))))
 
-        before! : is_in (landed_in st j) e ≡ true → get_or (zone_at v e (zone_on z e)).blocks (1 + offset_in st j e) no_chunk ≡ mk_chunk (slot_block p fl j e) (record_bytes (flight_rec p st j e))
+        before! : is_in (landed_in st j) e ≡ true
+            → get_or (zone_at v e (zone_on z e)).blocks (1 + offset_in st j e) no_chunk ≡ mk_chunk (slot_block p fl j e) (record_bytes (flight_rec p st j e))
         before! y = as! (F.landed_is j e hj fj he y)
           where
             as! : chunk_at v e (zone_on (open_segment p v st) e) (1 + offset_in st j e) ≡ mk_chunk (slot_block p fl j e) (record_bytes (flight_rec p st j e))
@@ -236,7 +237,8 @@ module _ (p : Params) (r : Ranged p) (v : View) (sh : Shaped p v) (st : State) (
         at! : (j e : ℕ) → get_or (zone_at v1 e (zone_on z e)).blocks (1 + offset_in st1 j e) no_chunk ≡ mk_chunk (slot_block p fl j e) (record_bytes (flight_rec p st j e))
             → chunk_at v1 e (zone_on (open_segment p v1 st1) e) (1 + offset_in st1 j e) ≡ mk_chunk (slot_block p fl j e) (record_bytes (flight_rec p st1 j e))
         at! j e x = unfold chunk_at in
-            (ap (λ (n : Seg). get_or (zone_at v1 e (zone_on n e)).blocks (1 + offset_in st1 j e) no_chunk) open1 ∙ x ∙ ap (λ (y : Rec). mk_chunk (slot_block p fl j e) (record_bytes y)) (sym (rec1 j e)))
+            (ap (λ (n : Seg). get_or (zone_at v1 e (zone_on n e)).blocks (1 + offset_in st1 j e) no_chunk) open1 ∙ x
+            ∙ ap (λ (y : Rec). mk_chunk (slot_block p fl j e) (record_bytes y)) (sym (rec1 j e)))
 
         ready! : (j : ℕ) → slot_block p fl j (parity_drive p (stripe_in st j)) ≡ encode_block p.B 0 (map (slot_block p fl j) (data_drives p (stripe_in st j)))
             → slot_block p fl j (parity_drive p (stripe_in st1 j)) ≡ encode_block p.B 0 (map (slot_block p fl j) (data_drives p (stripe_in st1 j)))

@@ -105,7 +105,8 @@ module _ (p : Params) (v : View) (st : State) (ls : Lists st) (i : ℕ) (hi : i 
 
       as! : filled_in_of st2 j ≡ filled_in_of st j → flight_rec p st2 j e ≡ flight_rec p st j e
       as! x = unfold flight_rec in
-          (ap (λ (l : List Rec). cond (is_data p (stripe_in st2 j) e) (entry_in_of st2 j (data_position p (stripe_in st2 j) e)) (encode_rec (parity_position p (stripe_in st2 j) e) (stripe_in st2 j) l))
+          (ap (λ (l : List Rec). cond (is_data p (stripe_in st2 j) e) (entry_in_of st2 j (data_position p (stripe_in st2 j) e))
+          (encode_rec (parity_position p (stripe_in st2 j) e) (stripe_in st2 j) l))
           (entries! x) ∙ same)
         where
           same : cond (is_data p (stripe_in st2 j) e) (entry_in_of st2 j (data_position p (stripe_in st2 j) e)) (encode_rec (parity_position p (stripe_in st2 j) e) (stripe_in st2 j) (entries_in st j))

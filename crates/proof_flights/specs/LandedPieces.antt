@@ -26,7 +26,8 @@ pub piece_parts : (p : Params) (v : View) (gone : ℕ) (g : Seg) (s e : ℕ) →
     → stored_piece (segment_of p v gone g) s e
     ≡ mk_piece (get_or (zone_at v e (zone_on g e)).blocks (1 + offset_on (segment_of p v gone g) e s) no_chunk).block (stored_rec (segment_of p v gone g) s e)
 unfolding stored_piece stored_rec
-piece_parts p v gone g s e he = ap (λ (q : Zone). mk_piece (get_or q.blocks (1 + offset_on (segment_of p v gone g) e s) no_chunk).block (stored_rec (segment_of p v gone g) s e)) (zone_by p v gone g e he)
+piece_parts p v gone g s e he = ap (λ (q : Zone). mk_piece (get_or q.blocks (1 + offset_on (segment_of p v gone g) e s) no_chunk).block
+    (stored_rec (segment_of p v gone g) s e)) (zone_by p v gone g e he)
 
 module _ (p : Params) (gone : ℕ) (v u : View) (g : Seg) where
   abbrev sv : Segment
@@ -75,7 +76,8 @@ module _ (p : Params) (gone : ℕ) (v u : View) (g : Seg) where
 
   -- a chunk of u is in v, where v has that offset
   pub extends_back : (e : ℕ) → e < p.N → is_in gone e ≡ false → Extends e → (t : ℕ)
-      → ((o : ℕ) → o < data_stored p (zone_at u e (zone_on g e)) → (record_in p (sealed_in p u gone g) (zone_at u e (zone_on g e)) o).stripe ≡ t → o < data_stored p (zone_at v e (zone_on g e)))
+      → ((o : ℕ) → o < data_stored p (zone_at u e (zone_on g e)) → (record_in p (sealed_in p u gone g) (zone_at u e (zone_on g e)) o).stripe ≡ t
+      → o < data_stored p (zone_at v e (zone_on g e)))
       → has_chunk su t e ≡ true → has_chunk sv t e ≡ true
   extends_back e he q x t f c =
       let k = chunk_at_holds p u gone g e t he q c in

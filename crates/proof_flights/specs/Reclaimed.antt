@@ -243,7 +243,8 @@ module _ (p : Params) (off : List ℕ) (k : Disk) (m : Memory) (u : Run p off k 
       we = well_of p off k m u c.healthy
 
       go : Test (is_nil (victim_live w)) → Left plan
-      go (yes! q) = subst (λ (y : Plan). Left y) (sym (cond_true (is_nil (victim_live w)) (reset_plan p m (victim_segment w)) (copy_plan p v m (first_or 0 (idle p v st w))) q)) (reset_left we c.taken)
+      go (yes! q) = subst (λ (y : Plan). Left y)
+          (sym (cond_true (is_nil (victim_live w)) (reset_plan p m (victim_segment w)) (copy_plan p v m (first_or 0 (idle p v st w))) q)) (reset_left we c.taken)
       go (no! q) =
           subst (λ (y : Plan). Left y) (sym (cond_false (is_nil (victim_live w)) (reset_plan p m (victim_segment w)) (copy_plan p v m (first_or 0 (idle p v st w))) q))
           (copy_left we c.taken (c.some_idle q) (c.serial_left q) (c.no_wait q) (c.room q))

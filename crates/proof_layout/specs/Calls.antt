@@ -458,7 +458,8 @@ module _ (p : Params) (off : List ℕ) (k : Disk) (m : Memory) (u : Run p off k 
             mz = ap (λ (y : Memory). y.state.missing) h ∙ land_missing ∙ we.none_missing
 
             two : Test (seals p st (slot_of st s) d) → KeepsLaid p off old ld
-            two (no! q) = done_keeps p off k m old ld (store ∷ []) u ((stepped p off k m u (land d s n)).1 nc) (g ∙ ap (λ (y : List Store). store_all (store_disk p) y k) (plain_stores q)) mz ro wi
+            two (no! q) = done_keeps p off k m old ld (store ∷ []) u ((stepped p off k m u (land d s n)).1 nc)
+                (g ∙ ap (λ (y : List Store). store_all (store_disk p) y k) (plain_stores q)) mz ro wi
                 (subst (λ (y : View). WellLaid p y old) (sym one_store) wl)
             two (yes! q) =
                 let (cm, nx, fl) = seal_parts q in

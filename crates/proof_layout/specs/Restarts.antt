@@ -84,7 +84,8 @@ restarts_say p off k m d n q = go (restart_ends p off k m d n)
         → (call_disk p off k m (restart d n)).memory.state.missing ≡ named d → Restarts (on_values off) p (mk_world k m) d (call_world off p (mk_world k m) (restart d n))
     made e f = unfold call_world view_in in record { reports = e; under = f }
 
-    go : EndedAs p k m (start_checks p off k m d) (start_plan p off k m d) (call_disk p off k m (restart d n)) → Restarts (on_values off) p (mk_world k m) d (call_world off p (mk_world k m) (restart d n))
+    go : EndedAs p k m (start_checks p off k m d) (start_plan p off k m d) (call_disk p off k m (restart d n))
+        → Restarts (on_values off) p (mk_world k m) d (call_world off p (mk_world k m) (restart d n))
     go (ended-refused x e f g h) = clash q (ap finished f ∙ refused_unfinished x (refusal_kind (start_checks p off k m d) x e))
     go (ended_done c f g h) = made (f ∙ answer!) (ap (λ (x : Memory). x.state.missing) h ∙ missing!)
     go (ended-cut c f) = clash q (ap finished f ∙ cut_unfinished)

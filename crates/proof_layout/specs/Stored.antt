@@ -129,7 +129,8 @@ read_footers p r q q2 k f x h =
     (get_d_footer p r (spares_in p q) x (spares_long p r q k) (subst (λ (n : ℕ). x < n) (sym (spares_count p r q k)) h) ∙ spare_at_holds p r q k x h)
   where
     as! : get_or (blocks_of (drop (1 + p.S) q2.blocks)) (x / per_footer p) [] ≡ footer_block p (spares_in p q) (x / per_footer p)
-        → part (spare_len * (x % per_footer p)) spare_len (footer_block p (spares_in p q) (x / per_footer p)) ≡ (get_or q.blocks (1 + x) no_chunk).spare → record_in p true q2 x ≡ record_in p false q x
+        → part (spare_len * (x % per_footer p)) spare_len (footer_block p (spares_in p q) (x / per_footer p)) ≡ (get_or q.blocks (1 + x) no_chunk).spare
+        → record_in p true q2 x ≡ record_in p false q x
     as! a b = unfold record_in footer_record in ap record_of_of (ap (part (spare_len * (x % per_footer p)) spare_len) a ∙ b)
 
 -- 01, Landing and Restart, 4: the footers from number i on, behind those that are there

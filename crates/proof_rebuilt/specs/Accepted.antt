@@ -12,7 +12,8 @@ use Rattle.std.proofs.Math.ListN.{length, get_or}
 use Rattle.std.proofs.lemmas.List.{length-map}
 use Rattle.spec.specs.declared.Params.{Params}
 use Rattle.spec.specs.Drives.{mk_chunk, no_chunk, Zone, no_zone, View, zone_at, pointer_at, zone_on, blocks_of, footers_of, zero_spare, same_seg, zones_in, Chunk, chunk_at, is_good, sealed_in}
-use Rattle.spec.specs.Faults.{pointer_faults, same_chunk, header_fault, serial_fault, outside, twice, stripe_fault, bad_rec, stored_bad, decoded_bad, address_fault, footers_stored, same_blocks_of, footer_fault_in}
+use Rattle.spec.specs.Faults.{pointer_faults, same_chunk, header_fault, serial_fault, outside, twice, stripe_fault, bad_rec, stored_bad, decoded_bad, address_fault}
+use Rattle.spec.specs.Faults.{footers_stored, same_blocks_of, footer_fault_in}
 use Rattle.spec.specs.Faults.{footer_fault, clashes, segment_fault, segment_faults, bad_name, name_clash, own_fault, serial_twice}
 use Rattle.spec.specs.Layout.{is_data, group, in_group_of, header_block, header_serial, Rec, mk_rec, header_zones}
 use Rattle.spec.specs.Lists.{up_from, below, all, any, keep, same_list, tally, is_in}
@@ -269,7 +270,8 @@ module _ (p : Params) (v : View) (d : ℕ) (lo : Loss p v d) where
         (none_outside (suc b) rs (λ i h. ap (λ (n : ℕ). in_group_of p n (get_or rs i (mk_rec 0 0 0)).stripe) (let e : suc b + i ≡ b + suc i = omega arith in e) ∙ f (suc i) (omega arith)))
 
     -- none twice
-    none_twice : (rs : List Rec) → ((i j : ℕ) → i < length rs → j < length rs → (get_or rs i (mk_rec 0 0 0)).stripe ≡ (get_or rs j (mk_rec 0 0 0)).stripe → i ≡ j) → twice rs ≡ false
+    none_twice : (rs : List Rec) → ((i j : ℕ) → i < length rs → j < length rs → (get_or rs i (mk_rec 0 0 0)).stripe ≡ (get_or rs j (mk_rec 0 0 0)).stripe
+        → i ≡ j) → twice rs ≡ false
     unfolding twice
     none_twice [] f = refl
     none_twice (c ∷ rs) f = or_neither (any (λ (q : Rec). eqb q.stripe c.stripe) rs) (twice rs)
@@ -305,7 +307,8 @@ module _ (p : Params) (v : View) (d : ℕ) (lo : Loss p v d) where
         or_neither (any (λ e. any (stored_bad p e) (recs_on y e)) (present p 0)) (any (λ e. any (decoded_bad p 0 y e) (counted p 0 y)) (absent p 0))
         (none_of (λ e. any (stored_bad p e) (recs_on y e))
         (ap (any (stored_bad p d)) (recs_rebuilt p v d lo g m) ∙ in_none (stored_bad p d) made (λ b i. fine b i qd))
-        (λ e he pr. ap (any (stored_bad p e)) (recs_other p v d lo g m e he pr) ∙ none_in (λ e. any (stored_bad p e) (recs_on x e)) (present p gone) (or_first fa fb q) e (in_present p gone e he pr)))
+        (λ e he pr. ap (any (stored_bad p e)) (recs_other p v d lo g m e he pr)
+        ∙ none_in (λ e. any (stored_bad p e) (recs_on x e)) (present p gone) (or_first fa fb q) e (in_present p gone e he pr)))
         (in_none (λ e. any (decoded_bad p 0 y e) (counted p 0 y)) (absent p 0) (λ e i. absurd (gone_none e i)))
       where
         gone_in : In d (absent p gone)

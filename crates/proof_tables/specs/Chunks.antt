@@ -1,5 +1,6 @@
 -- A chunk lands: the view, the open segment, the tables and the state after it. Assumes nothing.
-use Rattle.std.specs.Prelude.{◌≡◌, List, [], ◌∷◌, ◌++◌, map, Bool, true, false, cond, ◌&&◌, ◌||◌, ◌⊎◌, ℕ, zero, suc, ◌+◌, ◌-◌, ◌*◌, ◌/◌, ◌%◌, ◌^◌, ◌≤◌, ◌<◌, ltb, set}
+use Rattle.std.specs.Prelude.{◌≡◌, List, [], ◌∷◌, ◌++◌, map, Bool, true, false, cond, ◌&&◌, ◌||◌, ◌⊎◌, ℕ, zero, suc, ◌+◌, ◌-◌}
+use Rattle.std.specs.Prelude.{◌*◌, ◌/◌, ◌%◌, ◌^◌, ◌≤◌, ◌<◌, ltb, set}
 use Rattle.std.proofs.Math.Path.{refl, sym, ap}
 use Rattle.std.proofs.Common.{ap₂, ◌∙◌, subst, inl, inr, ⊎_elim, suc-mul, le_of_eq, length-set}
 use Rattle.std.proofs.Math.Bool.{not}
@@ -14,7 +15,8 @@ use Rattle.std.specs.Int.Count.{ones}
 use Rattle.std.proofs.Math.Arith.{digits_div, digits_mod}
 use Rattle.spec.specs.declared.Params.{Params}
 use Rattle.spec.specs.declared.State.{State}
-use Rattle.spec.specs.Drives.{Chunk, mk_chunk, no_chunk, Zone, View, zone_at, pointer_at, chunk_at, Store, put_zone, store_view_of, zone_on, sealed_in, data_stored, record_in, record_at, is_good, no_seg, store_all}
+use Rattle.spec.specs.Drives.{Chunk, mk_chunk, no_chunk, Zone, View, zone_at, pointer_at, chunk_at, Store, put_zone, store_view_of, zone_on, sealed_in, data_stored}
+use Rattle.spec.specs.Drives.{record_in, record_at, is_good, no_seg, store_all}
 use Rattle.spec.specs.Drives.Store.{put}
 use Rattle.spec.specs.Landing.{ready, completes, flight_rec, held_cand, held, landed_cand, landed_cands, pointed}
 use Rattle.spec.specs.Layout.{data_drive, data_position, is_data, group, compact_entry, header_serial, Rec, mk_rec, record_bytes, record_of_of}
@@ -40,7 +42,8 @@ use Rattle.law_drives.specs.Masks.{only-low, full_mask, not_full}
 use Rattle.law_drives.specs.Members.{In, in_left, in_right, in_append, in_map, map_in, in_all, in_below, below_in}
 use Rattle.law_drives.specs.Puts.{data_sound, on_drive}
 use Rattle.law_drives.specs.Range.{capacity_over}
-use Rattle.law_drives.specs.Segs.{length_records, record_at_lem, data_low, low_data, recs_here, seg_is, chunk_at_holds, has_chunk_holds, offset_is, no_chunk_holds, CandAt, cand_at, at_cand, remaining_left}
+use Rattle.law_drives.specs.Segs.{length_records, record_at_lem, data_low, low_data, recs_here, seg_is, chunk_at_holds, has_chunk_holds, offset_is, no_chunk_holds}
+use Rattle.law_drives.specs.Segs.{CandAt, cand_at, at_cand, remaining_left}
 use Rattle.law_drives.specs.Settled.{serial_of, its_serial, cands_apart, zones_sealed, zones_pointer, cand_goes, row_goes, sealed_full, its_zone, there_remains, there_serial, zero_here}
 use Rattle.law_drives.specs.Slots.{cell-low}
 use Rattle.law_drives.specs.Holders.{place_first}
@@ -58,7 +61,8 @@ use Rattle.proof_tables.specs.Pointing.{pointed_is}
 use Rattle.proof_tables.specs.Ranks.{same_best}
 use Rattle.proof_tables.specs.Reclaiming.{cand_record}
 use Rattle.proof_tables.specs.Run.{flies, awaits, LandedAt, SlotFlies, OpenZone, Lists, HealthyState}
-use Rattle.proof_tables.specs.Slots.{cell_same, mark_landed_holds, mark_landed-other, mark_offset, mark_offset_other, mark_lists_holds, filled_freed, free_filled-other, free_lists, free_is, none_flies}
+use Rattle.proof_tables.specs.Slots.{cell_same, mark_landed_holds, mark_landed-other, mark_offset, mark_offset_other, mark_lists_holds, filled_freed, free_filled-other}
+use Rattle.proof_tables.specs.Slots.{free_lists, free_is, none_flies}
 use Rattle.proof_tables.specs.Tallies.{tally_cong, tally_none, tally_some, none_tally, tally-more}
 use Rattle.spec.specs.declared.Seg.{Seg}
 use Rattle.law_calls.specs.Refusals.{next_low, opened_low}
@@ -218,7 +222,8 @@ module _ (p : Params) (r : Ranged p) (v : View) (sh : Shaped p v) (st : State) (
       as! l = unfold pointer_at in l
 
       go : (q : Zone) → x ≡ q.pointer → x < length q.blocks → get_or (put_zone b (record_bytes rc) q).blocks x no_chunk ≡ mk_chunk b (record_bytes rc)
-      go q e l = unfold put_zone in (ap (λ (y : ℕ). get_or (set q.blocks y (mk_chunk b (record_bytes rc))) x no_chunk) (sym e) ∙ get_or-set_same q.blocks x (mk_chunk b (record_bytes rc)) no_chunk l)
+      go q e l = unfold put_zone in (ap (λ (y : ℕ). get_or (set q.blocks y (mk_chunk b (record_bytes rc))) x no_chunk) (sym e)
+          ∙ get_or-set_same q.blocks x (mk_chunk b (record_bytes rc)) no_chunk l)
 
   pub spare_old : (x : ℕ) → 1 + x < pointer_at v d (zone_on z d) → spare_at p v1 d (zone_on z d) x ≡ spare_at p v d (zone_on z d) x
   spare_old x l = as! (ap (λ (c : Chunk). record_of_of c.spare) (block_old (1 + x) l))
@@ -413,7 +418,8 @@ module _ (p : Params) (r : Ranged p) (v : View) (sh : Shaped p v) (st : State) (
         entries_low = λ e y. subst (λ (x : Rec). (x.address < 256 ^ 8) × (x.stamp < 256 ^ 8)) (sym (entry1 j e)) (f.entries_low e (subst (λ (x : ℕ). e < x) (filled1 j) y));
       }
     where
-      away : (e x : ℕ) → e < p.N → is_in (landed_in st j) e ≡ false → 1 + x < pointer_at v1 e (zone_on z e) → (spare_at p v1 e (zone_on z e) x).stripe ≡ stripe_in st j → Dec (d ≡ e) → ⊥
+      away : (e x : ℕ) → e < p.N → is_in (landed_in st j) e ≡ false → 1 + x < pointer_at v1 e (zone_on z e)
+          → (spare_at p v1 e (zone_on z e) x).stripe ≡ stripe_in st j → Dec (d ≡ e) → ⊥
       away e x he q y w (no a) =
           (op.flight j hj fj).not_there e x he q (subst (λ (m : ℕ). 1 + x < m) (pointer_else e he a) y) (ap (λ (m : Rec). m.stripe) (sym (spare_else e x he a)) ∙ w)
       away e x he q y w (yes a) = two (old_or_new x (subst (λ (m : ℕ). 1 + x < pointer_at v1 m (zone_on z m)) (sym a) y))
@@ -562,7 +568,8 @@ module _ (p : Params) (r : Ranged p) (v : View) (sh : Shaped p v) (st : State) (
       let x = offset_on seg0 e t in
       let l : 1 + x < pointer_at v e (zone_on z e) = below! v e x k.stored_there in
       let l1 : x < data_stored p (zone_at v1 e (zone_on z e)) = data_stored-below v1 e x (short_after e he) (let a = pointer_grows e he in omega arith) in
-      let same : (y : ℕ) → 1 + y < pointer_at v e (zone_on z e) → record_in p (sealed_in p v1 0 z) (zone_at v1 e (zone_on z e)) y ≡ record_in p (sealed_in p v 0 z) (zone_at v e (zone_on z e)) y =
+      let same : (y : ℕ) → 1 + y < pointer_at v e (zone_on z e)
+      → record_in p (sealed_in p v1 0 z) (zone_at v1 e (zone_on z e)) y ≡ record_in p (sealed_in p v 0 z) (zone_at v e (zone_on z e)) y =
       λ y m. unsealed_by_spare v1 e y open_after ∙ kept_spare e y he m ∙ sym (unsealed_by_spare v e y open_before) in
       let st! : (record_in p (sealed_in p v1 0 z) (zone_at v1 e (zone_on z e)) x).stripe ≡ t = ap (λ (m : Rec). m.stripe) (same x l) ∙ k.its_stripe in
       let eo : offset_on seg1 e t ≡ x = offset_is p v1 0 z e t x he (is_in_empty e) l1 st! (λ y m q. k.first y m (ap (λ (a : Rec). a.stripe) (sym (same y (omega arith))) ∙ q)) in
@@ -570,7 +577,8 @@ module _ (p : Params) (r : Ranged p) (v : View) (sh : Shaped p v) (st : State) (
       record {
         has_it = h1;
         same_offset! = sym eo;
-        same_record! = k.its_record ∙ sym (same x l) ∙ ap (record_in p (sealed_in p v1 0 z) (zone_at v1 e (zone_on z e))) (sym eo) ∙ sym (chunk_at_holds p v1 0 z e t he (is_in_empty e) h1).its_record;
+        same_record! = k.its_record ∙ sym (same x l) ∙ ap (record_in p (sealed_in p v1 0 z) (zone_at v1 e (zone_on z e))) (sym eo)
+            ∙ sym (chunk_at_holds p v1 0 z e t he (is_in_empty e) h1).its_record;
       }
 
   -- a chunk that is there was there, unless it is the new one
@@ -581,7 +589,8 @@ module _ (p : Params) (r : Ranged p) (v : View) (sh : Shaped p v) (st : State) (
       let l : 1 + x < pointer_at v1 e (zone_on z e) = below! v1 e x k.stored_there in
       let q : (spare_at p v1 e (zone_on z e) x).stripe ≡ t = ap (λ (m : Rec). m.stripe) (sym (unsealed_by_spare v1 e x open_after)) ∙ k.its_stripe in
       let m : 1 + x < pointer_at v e (zone_on z e) = go x l q (ℕ_discrete d e) in
-      has_chunk_holds p v 0 z e t x he (is_in_empty e) (data_stored-below v e x (short_before e he) m) (ap (λ (a : Rec). a.stripe) (unsealed_by_spare v e x open_before ∙ sym (kept_spare e x he m)) ∙ q)
+      has_chunk_holds p v 0 z e t x he (is_in_empty e) (data_stored-below v e x (short_before e he) m)
+      (ap (λ (a : Rec). a.stripe) (unsealed_by_spare v e x open_before ∙ sym (kept_spare e x he m)) ∙ q)
     where
       go : (x : ℕ) → 1 + x < pointer_at v1 e (zone_on z e) → (spare_at p v1 e (zone_on z e) x).stripe ≡ t → Dec (d ≡ e) → 1 + x < pointer_at v e (zone_on z e)
       go x l q (no a) = subst (λ (m : ℕ). 1 + x < m) (pointer_else e he a) l

@@ -44,7 +44,8 @@ use Rattle.law_views.specs.Alike.{offline_after}
 pub zone_kind : (p : Params) (v : View) (d z : ℕ) → ((y : Seg) × In y (remaining p v 0) × (zone_on y d ≡ z)) ⊎ ((y : Seg) → In y (remaining p v 0) → zone_on y d ≡ z → ⊥)
 zone_kind p v d z = go (test (any (λ y. eqb (zone_on y d) z) (remaining p v 0)))
   where
-    go : Test (any (λ y. eqb (zone_on y d) z) (remaining p v 0)) → ((y : Seg) × In y (remaining p v 0) × (zone_on y d ≡ z)) ⊎ ((y : Seg) → In y (remaining p v 0) → zone_on y d ≡ z → ⊥)
+    go : Test (any (λ y. eqb (zone_on y d) z) (remaining p v 0))
+        → ((y : Seg) × In y (remaining p v 0) × (zone_on y d ≡ z)) ⊎ ((y : Seg) → In y (remaining p v 0) → zone_on y d ≡ z → ⊥)
     go (yes! q) = let (y, m, e) = any_in (λ y. eqb (zone_on y d) z) (remaining p v 0) q in inl (y, m, eqb-true (zone_on y d) z e)
     go (no! q) = inr (λ y m e. clash (eq-eqb (zone_on y d) z e) (none_in (λ y. eqb (zone_on y d) z) (remaining p v 0) q y m))
 

@@ -196,7 +196,8 @@ module _ (p : Params) (off : List ℕ) (k : Disk) (m : Memory) (u : Run p off k 
         mild_rebuilt : is_refused_as 9 Rebuilt ≡ false
         mild_rebuilt = unfold is_refused_as is_refused kind in refl
 
-        go : EndedAs p k m checks plan (outcome p (store_disk p) n k m [] (decided (first_refusal checks) plan)) → Kept p off (outcome p (store_disk p) n k m [] (decided (first_refusal checks) plan))
+        go : EndedAs p k m checks plan (outcome p (store_disk p) n k m [] (decided (first_refusal checks) plan))
+            → Kept p off (outcome p (store_disk p) n k m [] (decided (first_refusal checks) plan))
         go (ended-refused a x f g h) = refused-kept p off k m _ a u (rebuild_mild p (lent_ok_of p off k m) v m e (segments p v (named e)) fine a x) f g h
         go (ended_done c f g h) = record {
           never_ninth = ap (is_refused_as 9) f ∙ mild_rebuilt;

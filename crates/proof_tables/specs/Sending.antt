@@ -41,7 +41,8 @@ use Rattle.law_calls.specs.Refusals.{next_low, opened_low}
 
 -- ---- eighths found by a search
 
-pub filling-flies : (p : Params) (st : State) → has_filling p st ≡ true → (filling_slot p st < 8) × (flies st (filling_slot p st) ≡ true) × (filled_in_of st (filling_slot p st) < data_count p)
+pub filling-flies : (p : Params) (st : State) → has_filling p st ≡ true → (filling_slot p st < 8) × (flies st (filling_slot p st) ≡ true)
+    × (filled_in_of st (filling_slot p st) < data_count p)
 unfolding has_filling filling_slot
 filling-flies p st q =
     let (l, e) = slot_found (is_filling p st) q in
@@ -141,7 +142,8 @@ module _ (p : Params) (r : Ranged p) (v : View) (sh : Shaped p v) (st : State) (
   -- the next stripe number, in a state su whose open zone is known
   healthy_begun : (su : State) (u : View) → HealthyState p u su → StateOk p su → (su.opened ≡ 0 → ⊥) → su.next < p.S → (i : ℕ) → i < 8 → flies su i ≡ false
       → ((j : ℕ) → j < 8 → flies su j ≡ true → group p (stripe_in su j) ≡ group p su.next)
-      → HealthyState p u (add_entry (begin_stripe su i) i a t w) × StateOk p (add_entry (begin_stripe su i) i a t w) × (length (placed p (begin_stripe su i) fl i a t w b).inflight ≡ inflight_len p)
+      → HealthyState p u (add_entry (begin_stripe su i) i a t w) × StateOk p (add_entry (begin_stripe su i) i a t w)
+      × (length (placed p (begin_stripe su i) fl i a t w b).inflight ≡ inflight_len p)
   healthy_begun su u k ko op nx i hi fi gr =
       let lb! = begin_lists su k.lists i hi in
       let room : filled_in_of (begin_stripe su i) i < data_count p = (let e = filled_begun su k.lists i hi in let d = two_up in omega arith) in (
@@ -151,7 +153,8 @@ module _ (p : Params) (r : Ranged p) (v : View) (sh : Shaped p v) (st : State) (
       )
 
   module _ (nf : has_filling p st ≡ false) (nw : must_wait p st ≡ false) where
-    wait_parts : (leb slot_count (length (in_flight st)) ≡ false) × ((must_open p st && not (is_nil (in_flight st)) ≡ false) × (not (must_open p st) && any (other_group p st) (in_flight st) ≡ false))
+    wait_parts : (leb slot_count (length (in_flight st)) ≡ false)
+        × ((must_open p st && not (is_nil (in_flight st)) ≡ false) × (not (must_open p st) && any (other_group p st) (in_flight st) ≡ false))
     wait_parts =
         let x = leb slot_count (length (in_flight st)) in
         let y = must_open p st && not (is_nil (in_flight st)) in

@@ -71,7 +71,8 @@ nothing_told p v gone co tb e = record {
     row a h = ext_get_or 0 (part (4 * a) 4 (replicate (addresses_len p) 255)) (replicate 4 255)
         (length_part (4 * a) 4 (replicate (addresses_len p) 255) (omega (arith, long, length-replicate {A = ℕ} (addresses_len p) 255)) ∙ sym (length-replicate {A = ℕ} 4 255))
         (λ j l. let k : j < 4 = subst (λ (x : ℕ). j < x) (length_part (4 * a) 4 (replicate (addresses_len p) 255) (omega (arith, long, length-replicate {A = ℕ} (addresses_len p) 255))) l in
-        get_d_part (4 * a) 4 (replicate (addresses_len p) 255) j k ∙ get_or-replicate {A = ℕ} (addresses_len p) (4 * a + j) 255 0 (omega (arith, long)) ∙ sym (get_or-replicate {A = ℕ} 4 j 255 0 k))
+        get_d_part (4 * a) 4 (replicate (addresses_len p) 255) j k ∙ get_or-replicate {A = ℕ} (addresses_len p) (4 * a + j) 255 0 (omega (arith, long))
+        ∙ sym (get_or-replicate {A = ℕ} 4 j 255 0 k))
         ∙ sym never ∙ sym (same a)
 
 -- ---- what the table holds of an address

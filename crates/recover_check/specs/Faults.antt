@@ -11,7 +11,8 @@ use Rattle.spec.specs.declared.Params.{Params}
 use Rattle.spec.specs.declared.Seg.{Seg}
 use Rattle.spec.specs.Bytes.{part}
 use Rattle.spec.specs.Drives.{no_zone, View, zone_on, sealed_in, seg}
-use Rattle.spec.specs.Faults.{header_fault, own_fault, bad_name, name_clash, serial_twice, serial_fault, stripe_fault, address_fault, footer_fault_in, footer_fault, clashes, segment_fault, segment_faults}
+use Rattle.spec.specs.Faults.{header_fault, own_fault, bad_name, name_clash, serial_twice, serial_fault, stripe_fault, address_fault, footer_fault_in, footer_fault}
+use Rattle.spec.specs.Faults.{clashes, segment_fault, segment_faults}
 use Rattle.spec.specs.Lists.{up_from, below, any, cons_if, keep, total, first_or}
 use Rattle.spec.specs.Params.{in_range, present}
 use Rattle.spec.specs.Restart.{uncounted_in}

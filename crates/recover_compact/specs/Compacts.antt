@@ -1,5 +1,6 @@
 -- The rows of a segment in the compact table (01, What a zone holds). Assumes nothing.
-use Rattle.std.specs.Prelude.{◌≡◌, refl, List, ◌++◌, map, Bool, true, false, cond, ◌⊎◌, ℕ, ◌+◌, ◌-◌, ◌*◌, ◌/◌, ◌%◌, ◌≤◌, ◌<◌, length, get_or, set, replicate}
+use Rattle.std.specs.Prelude.{◌≡◌, refl, List, ◌++◌, map, Bool, true, false, cond, ◌⊎◌, ℕ, ◌+◌, ◌-◌, ◌*◌, ◌/◌, ◌%◌, ◌≤◌}
+use Rattle.std.specs.Prelude.{◌<◌, length, get_or, set, replicate}
 use Rattle.std.proofs.Common.{sym, ap, ap₂, ◌∙◌, div-add-mod', mod-eq_of_lt}
 use Rattle.std.proofs.Math.Logic.{inl, inr}
 use Rattle.std.proofs.Math.Nat.{add-zero, zero-mod, mul-add-mod_self_right}
@@ -55,7 +56,8 @@ Else p gone g l l' = (d z o : ℕ) → d < p.N → z < p.Z → o < p.S → (is_i
 
 -- those of the drives below n are said, and nothing else changes
 pub record RowsSaid (p : Params) (v : View) (gone : ℕ) (g : Seg) (n : ℕ) (l l' : List ℕ) : Type 0 where
-  pub said : (d o : ℕ) → d < n → d < p.N → is_in gone d ≡ false → o < p.S → get_or l' (compact_at p d (zone_on g d) o) 0 ≡ get_or (compact_row p (recs_on (segment_of p v gone g) d)) o 0
+  pub said : (d o : ℕ) → d < n → d < p.N → is_in gone d ≡ false → o < p.S
+      → get_or l' (compact_at p d (zone_on g d) o) 0 ≡ get_or (compact_row p (recs_on (segment_of p v gone g) d)) o 0
   pub others : Else p gone g l l'
 
 pub rows_start : (p : Params) (v : View) (gone : ℕ) (g : Seg) (l : List ℕ) → RowsSaid p v gone g 0 l l

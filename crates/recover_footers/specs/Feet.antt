@@ -24,7 +24,8 @@ use Rattle.law_basic.specs.Segs.{ZonesLow, low_here}
 
 -- 01, Restart, 4: the footers that drive d lacks
 unfoldable pub missing_on : Params → Segment → ℕ → List Store
-missing_on p g d = footer_stores p d (zone_on g.seg d) (get_or g.zones_by_holds d no_zone) (footers_stored p (get_or g.zones_by_holds d no_zone)) (footers p - footers_stored p (get_or g.zones_by_holds d no_zone))
+missing_on p g d = footer_stores p d (zone_on g.seg d) (get_or g.zones_by_holds d no_zone) (footers_stored p (get_or g.zones_by_holds d no_zone))
+    (footers p - footers_stored p (get_or g.zones_by_holds d no_zone))
 
 pub missing_are : (p : Params) (g : Segment) → missing_footers p g ≡ flat (missing_on p g) (below p.N)
 unfolding missing_footers missing_on drives_of

@@ -155,7 +155,8 @@ module _ (p : Params) (v : View) (gone : ℕ) (sgm : Seg) where
       let w : twice rs ≡ false = or_right (outside p 0 rs) (twice rs) t in
       let c : pointer_at v d (zone_on sgm d) ≡ capacity p = eqb-true (pointer_at v d (zone_on sgm d)) (capacity p)
       (all_in (λ d. eqb (pointer_at v d (zone_on sgm d)) (capacity p)) (present p gone) f d m) in
-      let n : length rs ≡ p.S = ap length (recs_here p v gone sgm d hd hp) ∙ length_records p (sealed_in p v gone sgm) (zone_at v d (zone_on sgm d)) ∙ full_data p (zone_at v d (zone_on sgm d)) c in
+      let n : length rs ≡ p.S = ap length (recs_here p v gone sgm d hd hp) ∙ length_records p (sealed_in p v gone sgm) (zone_at v d (zone_on sgm d))
+      ∙ full_data p (zone_at v d (zone_on sgm d)) c in
       not-false (any (λ (r : Rec). eqb r.stripe s) rs) (not_so (not (any (λ (r : Rec). eqb r.stripe s) rs)) (λ e.
       let z : any (λ (r : Rec). eqb r.stripe s) rs ≡ false = not-true (any (λ (r : Rec). eqb r.stripe s) rs) e in
       let few = different_few p.S (s ∷ map (λ (r : Rec). r.stripe) rs)

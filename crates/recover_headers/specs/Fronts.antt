@@ -78,7 +78,8 @@ module _ (p : Params) (off im ptrs : List ℕ) (h : length im ≡ image_len p) (
   pub footer_list : (gone : ℕ) (g : Seg) → any (λ d. footer_fault_in p (get_or (segment_of p (view_of p off im ptrs) gone g).zones_by_holds d no_zone)) (present p gone)
       ≡ any (λ d. not (is_in gone d) && footer_fault_in p (zone_at (view_of p off im ptrs) d (zone_on g d))) (below p.N)
   footer_list gone g =
-      any-present p gone (λ d. footer_fault_in p (get_or (segment_of p (view_of p off im ptrs) gone g).zones_by_holds d no_zone)) (λ d. footer_fault_in p (zone_at (view_of p off im ptrs) d (zone_on g d)))
+      any-present p gone (λ d. footer_fault_in p (get_or (segment_of p (view_of p off im ptrs) gone g).zones_by_holds d no_zone))
+      (λ d. footer_fault_in p (zone_at (view_of p off im ptrs) d (zone_on g d)))
       (λ d hd _. ap (footer_fault_in p) (zone_by p (view_of p off im ptrs) gone g d hd))
 
 -- ---- footer blocks

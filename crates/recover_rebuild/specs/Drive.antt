@@ -255,7 +255,8 @@ module _ (p : Params) (r : Ranged p) (off : List ℕ) (d n : ℕ) (hd : d < p.N)
         next : Moving p off (named d) n whole! k₀ rest m.left k'
         next = moving_turn p off (named d) n whole! k₀ ours rest left k m k' zone_step this r d (named_in p r d hd) on c
 
-        other : (y : ℕ) → y < p.Z → get_or flags y false ≡ true → get_or ns z 0 < get_or ns y 0 → eqb (zone_on (seg (part (8 * z) 8 rows)) d) (zone_on (seg (part (8 * y) 8 rows)) d) ≡ false
+        other : (y : ℕ) → y < p.Z → get_or flags y false ≡ true → get_or ns z 0 < get_or ns y 0
+            → eqb (zone_on (seg (part (8 * z) 8 rows)) d) (zone_on (seg (part (8 * y) 8 rows)) d) ≡ false
         other y hy f g = ne_eqb (zone_on (seg (part (8 * z) 8 rows)) d) (zone_on (seg (part (8 * y) 8 rows)) d)
             (λ q. let i : get_or ns z 0 ≡ get_or ns y 0 = ap (λ (j : ℕ). get_or ns j 0) (ra.zone_own z y hz hy flag! f q) in let o : ⊥ = omega arith in o)
 
@@ -320,7 +321,8 @@ module _ (p : Params) (r : Ranged p) (off : List ℕ) (d n : ℕ) (hd : d < p.N)
     -- whatever the list is
     any_stores : (list : List ℕ) → zones_stores p d (seen p off k) flags ns rows 0 ≡ zones_stores p d (seen p list k) flags ns rows 0
     any_stores list = unfold zones_stores one_stores in
-        flat_cong (λ z. rebuilt_zone p d (segment_of p (seen p off k) (named d) (seg (part (8 * z) 8 rows)))) (λ z. rebuilt_zone p d (segment_of p (seen p list k) (named d) (seg (part (8 * z) 8 rows))))
+        flat_cong (λ z. rebuilt_zone p d (segment_of p (seen p off k) (named d) (seg (part (8 * z) 8 rows))))
+        (λ z. rebuilt_zone p d (segment_of p (seen p list k) (named d) (seg (part (8 * z) 8 rows))))
         (rising-in_order p.Z flags ns 0) (λ z _. ap (rebuilt_zone p d) (segment_alike p (seen p off k) (seen p list k) (named d) (seg (part (8 * z) 8 rows)) (seen_alike p off list k)))
 
     pub resets_fit : (list : List ℕ) → AllFit p (seen p list k) (zones_stores p d (seen p list k) flags ns rows 0)

@@ -175,7 +175,8 @@ module _ (e : ℕ) (fl : List Bool) (ns : List ℕ) (last : ℕ) where
       go (no q) = inl (rising_less y z (omega arith) q)
 
   -- zone z is none, or not below it
-  pub next_stays : (z r : ℕ) → RisingNext e fl ns last z r → (get_or fl z false ≡ true → last < get_or ns z 0 → (r < e) × (get_or ns r 0 ≤ get_or ns z 0)) → RisingNext e fl ns last (z + 1) r
+  pub next_stays : (z r : ℕ) → RisingNext e fl ns last z r → (get_or fl z false ≡ true → last < get_or ns z 0 → (r < e) × (get_or ns r 0 ≤ get_or ns z 0))
+      → RisingNext e fl ns last (z + 1) r
   next_stays z r x h = record { upto = x.upto; is_one = x.is_one; least = λ y k f g. go y f g (last_or y z k) }
     where
       go : (y : ℕ) → get_or fl y false ≡ true → last < get_or ns y 0 → (y < z) ⊎ (y ≡ z) → (r < e) × (get_or ns r 0 ≤ get_or ns y 0)
@@ -196,7 +197,8 @@ module _ (e : ℕ) (fl : List Bool) (ns : List ℕ) (last : ℕ) where
     pub order_end : e ≤ z → rising-in_order e fl ns last ≡ []
     order_end h = unfold rising-in_order in (ap (rising-rising (λ y. get_or ns y 0))
         (keep_nothing (λ y. get_or fl y false && ltb last (get_or ns y 0)) (below e) (λ y m. not_so (get_or fl y false && ltb last (get_or ns y 0))
-        (λ q. let k = (x.least y (below_in e y m) (and_left (get_or fl y false) (ltb last (get_or ns y 0)) q) (ltb-true last (get_or ns y 0) (and_right (get_or fl y false) (ltb last (get_or ns y 0)) q))).0 in
+        (λ q. let k = (x.least y (below_in e y m) (and_left (get_or fl y false) (ltb last (get_or ns y 0)) q)
+        (ltb-true last (get_or ns y 0) (and_right (get_or fl y false) (ltb last (get_or ns y 0)) q))).0 in
         let o : ⊥ = omega arith in o))) ∙ none!)
       where
         none! : rising-rising (λ y. get_or ns y 0) [] ≡ []
@@ -234,7 +236,8 @@ module _ (e : ℕ) (fl : List Bool) (ns : List ℕ) (last : ℕ) where
 pub order_all : (n : ℕ) (fl : List Bool) (ns : List ℕ) → ((z : ℕ) → z < n → get_or fl z false ≡ true → 0 < get_or ns z 0)
     → rising-in_order n fl ns 0 ≡ rising-rising (λ z. get_or ns z 0) (keep (λ z. get_or fl z false) (below n))
 unfolding rising-in_order
-order_all n fl ns h = ap (rising-rising (λ z. get_or ns z 0)) (keep-below_same (λ z. get_or fl z false && ltb 0 (get_or ns z 0)) (λ z. get_or fl z false) n (λ z hz. go z hz (test (get_or fl z false))))
+order_all n fl ns h = ap (rising-rising (λ z. get_or ns z 0))
+    (keep-below_same (λ z. get_or fl z false && ltb 0 (get_or ns z 0)) (λ z. get_or fl z false) n (λ z hz. go z hz (test (get_or fl z false))))
   where
     go : (z : ℕ) → z < n → Test (get_or fl z false) → (get_or fl z false && ltb 0 (get_or ns z 0)) ≡ get_or fl z false
     go z hz (yes! q) = and_both (get_or fl z false) (ltb 0 (get_or ns z 0)) q (lt-ltb 0 (get_or ns z 0) (h z hz q)) ∙ sym q

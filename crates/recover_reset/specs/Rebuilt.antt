@@ -9,7 +9,8 @@ use Rattle.std.proofs.Math.ListN.{take}
 use Rattle.std.proofs.lemmas.List.{length-map}
 use Rattle.std.proofs.Math.Seq.{ext_get_or}
 use Rattle.spec.specs.declared.Params.{Params}
-use Rattle.spec.specs.Drives.{Chunk, mk_chunk, no_chunk, Zone, View, zone_at, pointer_at, Store, Disk, pointer_of, store_disk, store_all, zone_on, spares_of, footers_of, zero_spare, footer_stores, zones_in}
+use Rattle.spec.specs.Drives.{Chunk, mk_chunk, no_chunk, Zone, View, zone_at, pointer_at, Store, Disk, pointer_of, store_disk, store_all, zone_on, spares_of, footers_of}
+use Rattle.spec.specs.Drives.{zero_spare, footer_stores, zones_in}
 use Rattle.spec.specs.Drives.Store.{put}
 use Rattle.spec.specs.Layout.{header_block, mk_rec, record_bytes, footer_block}
 use Rattle.spec.specs.Lists.{up_from, below, cons_if, keep, is_in}

@@ -68,7 +68,8 @@ module _ (p : Params) (gone : ℕ) (v u : View) (here : Here p gone) (ag : Agree
   unfolding stored_piece
   same_stored s e m =
       let (he, q) = present_in p gone e m in
-      let z : get_or x.zones_by_holds e no_zone ≡ get_or y.zones_by_holds e no_zone = zone_by p v gone g e he ∙ ag e (zone_on g e) he (low_zone p gone g e hg he q) q ∙ sym (zone_by p u gone g e he) in
+      let z : get_or x.zones_by_holds e no_zone ≡ get_or y.zones_by_holds e no_zone = zone_by p v gone g e he ∙ ag e (zone_on g e) he (low_zone p gone g e hg he q) q
+      ∙ sym (zone_by p u gone g e he) in
       λ j. mk_piece (get_or (z j).blocks (1 + same_offset e s j) no_chunk).block (get_or (same_recs_on e j) (same_offset e s j) (mk_rec 0 0 0))
 
   -- the chunk of a missing drive

@@ -143,7 +143,8 @@ module _ (p : Params) (gone : ℕ) (g : Segment) (n : ℕ) (t : Tally) (T : Tall
   pub passes_none : (recs_fault p gone g ≡ false → (counts p gone g n ≡ false) × (is_loose p gone g n ≡ false)) → Tallied p gone g (n + 1) t
   unfolding lost_fault
   passes_none h = record {
-    bad_is = λ e. T.bad_is e ∙ sym (any-more (lost_fault p gone g) n ∙ or_none (any (lost_fault p gone g) (below n)) (lost_fault p gone g n) (ap (λ (x : Bool). x && lost_bad p gone g n) (h e).0));
+    bad_is = λ e. T.bad_is e ∙ sym (any-more (lost_fault p gone g) n
+        ∙ or_none (any (lost_fault p gone g) (below n)) (lost_fault p gone g n) (ap (λ (x : Bool). x && lost_bad p gone g n) (h e).0));
     counted_is = λ e b. T.counted_is e b ∙ sym (tally-below_miss (counts p gone g) n (h e).0);
     top_is = λ e b. T.top_is e b ∙ sym (last_miss (counts p gone g) n (h e).0);
     loose_is = λ e b. T.loose_is e b ∙ sym (tally-below_miss (is_loose p gone g) n (h e).1);
@@ -154,7 +155,8 @@ module _ (p : Params) (gone : ℕ) (g : Segment) (n : ℕ) (t : Tally) (T : Tall
       → Tallied p gone g (n + 1) (record { bad = t.bad; counted = t.counted; top = t.top; loose = t.loose + 1 })
   unfolding lost_fault
   passes_loose h = record {
-    bad_is = λ e. T.bad_is e ∙ sym (any-more (lost_fault p gone g) n ∙ or_none (any (lost_fault p gone g) (below n)) (lost_fault p gone g n) (ap (λ (x : Bool). x && lost_bad p gone g n) (h e).0));
+    bad_is = λ e. T.bad_is e ∙ sym (any-more (lost_fault p gone g) n
+        ∙ or_none (any (lost_fault p gone g) (below n)) (lost_fault p gone g n) (ap (λ (x : Bool). x && lost_bad p gone g n) (h e).0));
     counted_is = λ e b. T.counted_is e b ∙ sym (tally-below_miss (counts p gone g) n (h e).0);
     top_is = λ e b. T.top_is e b ∙ sym (last_miss (counts p gone g) n (h e).0);
     loose_is = λ e b. ap (λ (x : ℕ). x + 1) (T.loose_is e b) ∙ sym (tally-below_hit (is_loose p gone g) n (h e).1);

@@ -89,7 +89,8 @@ module _ (p : Params) (off im ps : List ℕ) (w : Group) (at : List ℕ) (k : �
           subst (λ (x : ℕ). x < p.S) (sym (cond_false (is_in w.gone d) (w.base + k) (offset_on g d (w.base + k)) e)) (omega (arith, x.1, group_len_fits p w.base (omega arith)))
 
 -- the candidate of a stripe on a drive, from its record and offset
-pub cand_is : (p : Params) (v : View) (gone : ℕ) (g : Seg) (s d : ℕ) (r : Rec) (n o q : ℕ) → r ≡ rec_of p gone (segment_of p v gone g) s d → o ≡ offset_of gone (segment_of p v gone g) s d
+pub cand_is : (p : Params) (v : View) (gone : ℕ) (g : Seg) (s d : ℕ) (r : Rec) (n o q : ℕ) → r ≡ rec_of p gone (segment_of p v gone g) s d
+    → o ≡ offset_of gone (segment_of p v gone g) s d
     → n ≡ (segment_of p v gone g).serial → q ≡ place_of p d (zone_on g d) (1 + o)
     → record { address = r.address; stamp = r.stamp; serial = n; drive = d; offset = o; place = q } ≡ cand_of p gone (segment_of p v gone g) s d
 unfolding cand_of segment_of

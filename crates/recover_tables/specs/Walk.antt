@@ -13,7 +13,8 @@ use Rattle.spec.specs.Lists.{up_from, below, any, keep, flat, greatest, is_in}
 use Rattle.spec.specs.Memory.{compact_at}
 use Rattle.spec.specs.Params.{data_count, addresses_len, compact_len}
 use Rattle.spec.specs.Rank.{Cand}
-use Rattle.spec.specs.Segments.{low_drive, remaining, Segment, segment_of, segments, counts, counted, cand_of, segment_cands, candidates, address_table, compact_row, row_of, compact_table, greatest_stamp}
+use Rattle.spec.specs.Segments.{low_drive, remaining, Segment, segment_of, segments, counts, counted, cand_of, segment_cands, candidates, address_table, compact_row}
+use Rattle.spec.specs.Segments.{row_of, compact_table, greatest_stamp}
 use Rattle.law_basic.specs.Ranges.{up_from_snoc, below-snoc, map-append, map-below-snoc, keep_append, keep_hit, keep_miss, keep_none, length-keep, flat_append, greatest-append}
 use Rattle.law_basic.specs.Ranges.{Test, test}
 use Rattle.law_basic.specs.Ranges.Test.{yes!, no! }

@@ -1,5 +1,6 @@
 -- Lists: ranges, tests over a list, search; masks. Assumes nothing.
-use Rattle.std.specs.Prelude.{List, [], ◌∷◌, ◌++◌, Bool, true, false, cond, ◌&&◌, ◌||◌, ℕ, zero, suc, ◌+◌, ◌-◌, ◌/◌, ◌%◌, min, max, eqb, ltb, length, get_or, take, drop, replicate}
+use Rattle.std.specs.Prelude.{List, [], ◌∷◌, ◌++◌, Bool, true, false, cond, ◌&&◌, ◌||◌, ℕ, zero, suc, ◌+◌, ◌-◌, ◌/◌, ◌%◌, min, max}
+use Rattle.std.specs.Prelude.{eqb, ltb, length, get_or, take, drop, replicate}
 
 -- one, or none
 pub data Opt (A : Type 0) : Type 0 where

@@ -9,7 +9,8 @@ use Rattle.law_basic.specs.Be.{written-zero, written-suc}
 use Rattle.bits_be.proofs.write_be.Given as goal
 
 abbrev pub invariant-loop-i : goal.invariant-loop-i
-invariant-loop-i l = (l.i ≤ l.width) × (length l.dst ≡ length l.initial.dst) × (l.rest ≡ l.n / 256 ^ (l.width - l.i)) × (l.dst ≡ splice l.initial.dst (l.at + l.i) (to_be (l.width - l.i) l.n))
+invariant-loop-i l = (l.i ≤ l.width) × (length l.dst ≡ length l.initial.dst) × (l.rest ≡ l.n / 256 ^ (l.width - l.i))
+    × (l.dst ≡ splice l.initial.dst (l.at + l.i) (to_be (l.width - l.i) l.n))
 
 abbrev pub decreases-loop-i : goal.decreases-loop-i
 decreases-loop-i l = l.i

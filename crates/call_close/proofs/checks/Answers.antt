@@ -126,8 +126,8 @@ filling_is c =
 
 pub returns-then-not-is_slot : goal.returns-then-not-is_slot
 returns-then-not-is_slot c =
-    let at_else = c.before.before.before.before in
     let at_else' = c.before.before.before in
+    let at_else = at_else'.before in
     let s = listed at_else in
     filling_fails s.args.p s.args.offline.now (diskIn s) (memoryIn s) (filling_is c.before.before ∙ not-true c.is_slot.result c.if-not-is_slot.true-raw) ∙ healthy at_else'
 
@@ -155,13 +155,14 @@ scarce_checks-requires c =
     let at_else = c.before.before.before in
     let w = two at_else in
     let s = begun w in
-    let l = lent_long_lem s.args.p s.args.offline.now (diskIn s) (memoryIn s) (lent w) in record { p_value = ranged w; whole = (record { image_long = l.0; pointers_long = l.1 }, l.5); addresses_len = (l.2, s.requires.2) }
+    let l = lent_long_lem s.args.p s.args.offline.now (diskIn s) (memoryIn s) (lent w) in
+    record { p_value = ranged w; whole = (record { image_long = l.0; pointers_long = l.1 }, l.5); addresses_len = (l.2, s.requires.2) }
 
 pub returns-then-scarce : goal.returns-then-scarce
 returns-then-scarce c =
-    let at_else = c.before.before.before.before in
     let at_scarce = c.before.before.before in
-    let at_else' = c.before.before.before.before.before.before in
+    let at_else = at_scarce.before in
+    let at_else' = at_else.before.before in
     let s = begun (two at_else) in
     c.scarce_checks.ensures ∙ scarce_last s.args.p s.args.offline.now (diskIn s) (memoryIn s) (filling at_else) (scarce-is at_scarce ∙ c.if-scarce.true)
     ∙ healthy at_else'
@@ -173,18 +174,18 @@ state_ok-requires c =
 
 pub returns-then-not-state_ok : goal.returns-then-not-state_ok
 returns-then-not-state_ok c =
-    let at_else = c.before.before.before.before.before in
     let at_scarce = c.before.before.before.before in
-    let at_else' = c.before.before.before.before.before.before.before in
+    let at_else = at_scarce.before in
+    let at_else' = at_else.before.before in
     let s = begun (two at_else) in
     close_state_fails s.args.p s.args.offline.now (diskIn s) (memoryIn s) (filling at_else) (scarce-is at_scarce ∙ c.if-scarce.false)
     (sym c.state_ok.ensures ∙ not-true c.state_ok.result c.if-not-state_ok.true-raw) ∙ healthy at_else'
 
 pub returns : goal.returns
 returns c =
-    let at_else = c.before.before.before.before.before in
     let at_scarce = c.before.before.before.before in
-    let at_else' = c.before.before.before.before.before.before.before in
+    let at_else = at_scarce.before in
+    let at_else' = at_else.before.before in
     let s = begun (two at_else) in
     close_state_passes s.args.p s.args.offline.now (diskIn s) (memoryIn s) (filling at_else) (scarce-is at_scarce ∙ c.if-scarce.false)
     (sym c.state_ok.ensures ∙ not-false c.state_ok.result c.if-not-state_ok.false-raw) ∙ healthy at_else'

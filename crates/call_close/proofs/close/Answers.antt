@@ -78,8 +78,8 @@ checked-is c =
 
 pub returns-in-Fail : goal.returns-in-Fail
 returns-in-Fail c =
-    let start' = c.before.before.before.before.before.before.before.before.before.before.before.before.before in
     let at_checks = c.before.before.before in
+    let start' = at_checks.before.before.before.before.before.before.before.before.before.before in
     λ n. close_refused c.args.p c.args.offline.now (disk start') (memory start') c.kept.result
     (sym (checked-is at_checks) ∙ ap checked c.in-Fail.is ∙ ap (λ (x : Change). some x.answer) (sym c.kept.ensures)) n
 
@@ -92,32 +92,40 @@ passed c =
 pub row_at-row-requires : goal.row_at-row-requires
 row_at-row-requires c =
     let at_filling_slot = c.before.before.before in
-    let start' = c.before.before.before.before.before.before.before.before.before.before.before.before in
-    (c.requires.1, slot_low c.args.p c.args.state c.filling_slot-i.result (slot_of_lem at_filling_slot) (close_ready c.args.p c.args.offline.now (disk start') (memory start') (passed c.before)).filling)
+    let start' = c.before.before.before.before.before.before.before.before.before.before.before.before in (
+      c.requires.1,
+      slot_low c.args.p c.args.state c.filling_slot-i.result (slot_of_lem at_filling_slot)
+          (close_ready c.args.p c.args.offline.now (disk start') (memory start') (passed c.before)).filling,
+    )
 
 -- the row is the state's
 row_is : (c : After-row_at) → c.row_at-row.result ≡ slot_row (start c.before.before).args.state c.before.before.before.filling_slot-i.result
 row_is c =
     let at_filling_slot_i = c.before.before.before in
-    let start' = c.before.before.before.before.before.before.before.before.before.before.before.before in
+    let start' = at_filling_slot_i.before.before.before.before.before.before.before.before.before in
     let i = at_filling_slot_i.filling_slot-i.result in
     c.row_at-row.ensures ∙ ap (λ (x : State). slot_row x i) (sym start'.requires.0)
 
 pub pad_all-next-requires : goal.pad_all-next-requires
 pad_all-next-requires c =
-    let start' = c.before.before.before.before.before.before.before.before.before.before.before.before.before.before in
     let at_enum_told = c.before.before.before in
-    let at_filling_slot = c.before.before.before.before.before in
+    let at_filling_slot = at_enum_told.before.before in
+    let start' = at_filling_slot.before.before.before.before.before.before.before.before.before in
     let r = close_ready c.args.p c.args.offline.now (disk start') (memory start') (passed at_enum_told) in
     let i = c.filling_slot-i.result in
-    let e : c.row_at-row.result.filled ≡ filled_in_of c.args.state i = ap (λ (x : Row). x.filled) (row_is c.before.before) ∙ row_filled c.args.state i in record { p_value = r.ranged; i_bound = (slot_low c.args.p c.args.state i (slot_of_lem at_filling_slot) r.filling, omega (arith, e, slot_open c.args.p c.args.state i (slot_of_lem at_filling_slot) r.filling), r.inflight_long) }
+    let e : c.row_at-row.result.filled ≡ filled_in_of c.args.state i = ap (λ (x : Row). x.filled) (row_is c.before.before)
+    ∙ row_filled c.args.state i in record {
+      p_value = r.ranged;
+      i_bound =
+          (slot_low c.args.p c.args.state i (slot_of_lem at_filling_slot) r.filling, omega (arith, e, slot_open c.args.p c.args.state i (slot_of_lem at_filling_slot) r.filling), r.inflight_long);
+    }
 
 pub returns : goal.returns
 returns c =
-    let at_enum_told = c.before.before.before.before.before.before.before.before.before in
-    let start' = c.before.before.before.before.before.before.before.before.before.before.before.before.before.before.before.before.before.before.before.before in
-    let at_filling_slot = c.before.before.before.before.before.before.before.before.before.before.before in
     let at_row_at = c.before.before.before.before.before.before.before.before in
+    let at_enum_told = at_row_at.before in
+    let at_filling_slot = at_enum_told.before.before in
+    let start' = at_filling_slot.before.before.before.before.before.before.before.before.before in
     let q = c.pad_all-next in
     let f = c.front_of-f in
     let a = c.args in

@@ -18,4 +18,5 @@ returns c =
     let next-drive = c.next_drive-drive in
     let d : next-drive.result ≡ drive_for a.p a.row = next-drive.ensures.0 in
     let b : clear-part.new.dst ≡ set_slot_block a.p a.inflight.now a.i (drive_for a.p a.row) (replicate a.p.B 0) =
-    clear-part.ensures ∙ ap (λ (x : ℕ). splice a.inflight.now x (replicate a.p.B 0)) (slot-byte.ensures.0 ∙ ap (slot_byte a.p a.i) d) in record { value = q.ensures.value; inflight_after = q.ensures.inflight_after ∙ ap (entered a.p a.row a.i) b }
+    clear-part.ensures ∙ ap (λ (x : ℕ). splice a.inflight.now x (replicate a.p.B 0)) (slot-byte.ensures.0 ∙ ap (slot_byte a.p a.i) d) in
+    record { value = q.ensures.value; inflight_after = q.ensures.inflight_after ∙ ap (entered a.p a.row a.i) b }

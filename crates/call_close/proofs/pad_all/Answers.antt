@@ -42,7 +42,8 @@ loop-k-preserved c =
       omega (arith, low (goal.at.loop-k-preserved c).In-loop-k),
       pad_filled a.p a.i l.next l.inflight l.k l.invariant.1 ∙ ap (λ (x : Row). x.filled) (sym r.value),
       pad.auto.inflight ∙ l.invariant.2,
-      (λ j. padded_row a.p a.i (data_count a.p - (l.k + 1)) (r.value j) (r.inflight_after j)) ∙ pads_turn a.p a.i l.next l.inflight l.k (low (goal.at.loop-k-preserved c).In-loop-k) ∙ l.invariant.3,
+      (λ j. padded_row a.p a.i (data_count a.p - (l.k + 1)) (r.value j) (r.inflight_after j))
+          ∙ pads_turn a.p a.i l.next l.inflight l.k (low (goal.at.loop-k-preserved c).In-loop-k) ∙ l.invariant.3,
     )
 
 pub shape_of-inflight : goal.shape_of-inflight
@@ -56,4 +57,5 @@ returns c =
     let q =
     sym (pads_end a.p a.i l.next l.inflight l.k e)
     ∙ l.invariant.3
-    ∙ ap (λ (x : ℕ). padded_row a.p a.i (data_count a.p - x) a.row a.inflight.now) c.wide-k.ensures in record { value = ap (λ (x : PlacedRow). x.row) q; inflight_after = ap (λ (x : PlacedRow). x.inflight) q }
+    ∙ ap (λ (x : ℕ). padded_row a.p a.i (data_count a.p - x) a.row a.inflight.now) c.wide-k.ensures in
+    record { value = ap (λ (x : PlacedRow). x.row) q; inflight_after = ap (λ (x : PlacedRow). x.inflight) q }

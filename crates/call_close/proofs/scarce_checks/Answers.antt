@@ -48,8 +48,8 @@ nothing_left c =
 
 pub returns-then-not-state_ok : goal.returns-then-not-state_ok
 returns-then-not-state_ok c =
-    let start = c.before.before.before.before.before.before.before.before.before.before.before.before in
     let at_else = c.before.before.before in
+    let start = at_else.before.before.before.before.before.before.before.before.before in
     let a = c.args in
     let state_ok_holds = c.state_ok in
     close_numbers_fail a.p (view start) (state_of a.bytes.now) a.addresses.now (left start) (nothing_left at_else)
@@ -58,12 +58,17 @@ returns-then-not-state_ok c =
 pub is_outside-requires : goal.is_outside-requires
 is_outside-requires c =
     let start = c.before.before.before.before.before.before.before.before.before.before.before.before in
-    let look = c.look-seen in record { p_value = c.requires.p_value; whole = (c.requires.whole.0, c.requires.whole.1, c.requires.addresses_len.0); addresses_value = λ h. outside_told c.args.p (view start) c.args.addresses.now look.result.outside (look.ensures.outside h) }
+    let look = c.look-seen in record {
+      p_value = c.requires.p_value;
+      whole = (c.requires.whole.0, c.requires.whole.1, c.requires.addresses_len.0);
+      addresses_value = λ h.
+          outside_told c.args.p (view start) c.args.addresses.now look.result.outside (look.ensures.outside h);
+    }
 
 pub returns-then-is_outside : goal.returns-then-is_outside
 returns-then-is_outside c =
-    let start = c.before.before.before.before.before.before.before.before.before.before.before.before.before.before in
     let at_else = c.before.before.before.before.before in
+    let start = at_else.before.before.before.before.before.before.before.before.before in
     let a = c.args in
     let state_ok_holds = c.state_ok in
     table_fails a.p (view start) (state_of a.bytes.now) a.addresses.now (left start) (nothing_left at_else)
@@ -72,8 +77,8 @@ returns-then-is_outside c =
 
 pub returns : goal.returns
 returns c =
-    let start = c.before.before.before.before.before.before.before.before.before.before.before.before.before.before in
     let at_else = c.before.before.before.before.before in
+    let start = at_else.before.before.before.before.before.before.before.before.before in
     let a = c.args in
     let state_ok_holds = c.state_ok in
     table_passes a.p (view start) (state_of a.bytes.now) a.addresses.now (left start) (nothing_left at_else)

@@ -35,7 +35,11 @@ pub take_block-requires : goal.take_block-requires
 take_block-requires c =
     let a = c.args in
     let pre = c.requires in
-    let w = pre.copy_ready in record { p_value = w.in_range_holds; image_len = (w.whole.image_long, pre.q_bound.0, subst (λ (x : ℕ). a.p.B ≤ x) (sym buffer_long) (ranged a.p w.in_range_holds).block_high) }
+    let w = pre.copy_ready in record {
+      p_value = w.in_range_holds;
+      image_len =
+          (w.whole.image_long, pre.q_bound.0, subst (λ (x : ℕ). a.p.B ≤ x) (sym buffer_long) (ranged a.p w.in_range_holds).block_high);
+    }
 
 pub slice_bounds-block-end : goal.slice_bounds-block-end
 slice_bounds-block-end c =
@@ -55,7 +59,8 @@ send_copy-requires c =
     let a = c.args in
     let t = c.take_block in
     let pre = c.requires in
-    let long = length-take-le a.p.B t.new.block (omega (arith, t.auto.block ∙ buffer_long, (ranged a.p pre.copy_ready.in_range_holds).block_high)) in record { copy_ready = pre.copy_ready; f_value = (pre.f_value.0, pre.f_value.1, pre.f_value.2, long) }
+    let long = length-take-le a.p.B t.new.block (omega (arith, t.auto.block ∙ buffer_long, (ranged a.p pre.copy_ready.in_range_holds).block_high)) in
+    record { copy_ready = pre.copy_ready; f_value = (pre.f_value.0, pre.f_value.1, pre.f_value.2, long) }
 
 pub returns : goal.returns
 unfolding part

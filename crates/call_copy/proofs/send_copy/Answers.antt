@@ -49,8 +49,14 @@ open-o-requires c =
     let start' = c.before.before.before.before.before.before.before.before.before.before.before in
     let a = c.args in
     let r = c.requires.copy_ready in
-    let aimed = c.requires.f_value.1 in record { p_value = r.in_range_holds; whole = (r.whole, r.offline_long); opens_value = ap (λ (x : Aim). x.opens) (aimed ∙ sym (front_aim a.p (state start') a.f c.requires.f_value.0)); serial_lt_last_count = λ e.
-                lt_of_le-ne (serial_fits start') (λ q. r.serial_left (ap (λ (x : Aim). x.opens) (sym aimed) ∙ e) (ap (λ (x : Front). x.serial.0) (sym c.requires.f_value.0) ∙ q)); nonzero = λ e. r.empties (ap (λ (x : Aim). x.opens) (sym aimed) ∙ e) }
+    let aimed = c.requires.f_value.1 in record {
+      p_value = r.in_range_holds;
+      whole = (r.whole, r.offline_long);
+      opens_value = ap (λ (x : Aim). x.opens) (aimed ∙ sym (front_aim a.p (state start') a.f c.requires.f_value.0));
+      serial_lt_last_count = λ e.
+          lt_of_le-ne (serial_fits start') (λ q. r.serial_left (ap (λ (x : Aim). x.opens) (sym aimed) ∙ e) (ap (λ (x : Front). x.serial.0) (sym c.requires.f_value.0) ∙ q));
+      nonzero = λ e. r.empties (ap (λ (x : Aim). x.opens) (sym aimed) ∙ e);
+    }
 
 -- the drives with the segment open
 abbrev after : (c : After-open) → Disk
@@ -71,8 +77,8 @@ opened c =
 
 pub returns-then-o : goal.returns-then-o
 returns-then-o c =
-    let start' = c.before.before.before.before.before.before.before.before.before.before.before.before.before.before.before.before.before.before.before.before.before.before.before.before in
     let at_open = c.before.before.before.before.before.before.before.before.before.before.before.before.before in
+    let start' = at_open.before.before.before.before.before.before.before.before.before.before.before in
     let u = c.cut in
     let if1 = c.if-o in
     let a = c.args in
@@ -86,18 +92,19 @@ row_at-row-requires c =
 
 pub send-w-requires : goal.send-w-requires
 send-w-requires c =
-    let start' = c.before.before.before.before.before.before.before.before.before.before.before.before.before.before.before.before.before.before.before in
     let at_open = c.before.before.before.before.before.before.before.before in
+    let start' = at_open.before.before.before.before.before.before.before.before.before.before.before in
     let a = c.args in
     let r = c.requires.copy_ready in
     let row = c.row_at-row in
     let q = sent_asks a.p a.offline.now (disk start') (memory start') a.address.0 a.stamp.0 a.block.now a.count r c.open-o.result (after at_open)
-    (opened at_open) a.f c.requires.f_value.0 a.a c.requires.f_value.1 row.result row.ensures in record { p_value = r.in_range_holds; slot_bound = (q.0, q.1, q.2, r.inflight_long, c.requires.f_value.3) }
+    (opened at_open) a.f c.requires.f_value.0 a.a c.requires.f_value.1 row.result row.ensures in
+    record { p_value = r.in_range_holds; slot_bound = (q.0, q.1, q.2, r.inflight_long, c.requires.f_value.3) }
 
 pub returns : goal.returns
 returns c =
-    let start' = c.before.before.before.before.before.before.before.before.before.before.before.before.before.before.before.before.before.before.before.before.before.before.before.before.before.before in
     let at_open = c.before.before.before.before.before.before.before.before.before.before.before.before.before.before.before in
+    let start' = at_open.before.before.before.before.before.before.before.before.before.before.before in
     let q = c.send-w in
     let row = c.row_at-row in
     let if1 = c.if-o in

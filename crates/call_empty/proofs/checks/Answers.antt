@@ -58,8 +58,8 @@ lent_ok-requires c = sym c.in_range.ensures ∙ not-false c.in_range.result c.if
 
 pub returns-then-not-lent_ok : goal.returns-then-not-lent_ok
 returns-then-not-lent_ok c =
-    let start = c.before.before.before.before.before.before.before.before.before.before.before in
     let at_else = c.before.before.before in
+    let start = at_else.before.before.before.before.before.before.before.before in
     let lent_ok = c.lent_ok in
     λ st e. empty_lengths_fail c.args.p c.args.offline.now (disk start) (memory start st) c.args.address.0 (sym (lent_ok.ensures st) ∙ not-true lent_ok.result c.if-not-lent_ok.true-raw)
     ∙ ranged at_else st
@@ -79,7 +79,13 @@ pub list_rule-rule-requires : goal.list_rule-rule-requires
 list_rule-rule-requires c =
     let s = start-2 c.before in
     let in_range_holds = c.in_range in
-    let whole = sym (c.lent_ok.ensures zero_state) ∙ not-false c.lent_ok.result c.if-not-lent_ok.false-raw in record { p_value = sym in_range_holds.ensures ∙ not-false in_range_holds.result c.if-not-in_range.false-raw; offline_len = (lent_long_lem s.args.p s.args.offline.now (disk s) (memory s zero_state) whole).5 }
+    let whole = sym (c.lent_ok.ensures zero_state)
+    ∙ not-false c.lent_ok.result c.if-not-lent_ok.false-raw in
+    record {
+      p_value = sym in_range_holds.ensures
+          ∙ not-false in_range_holds.result c.if-not-in_range.false-raw;
+      offline_len = (lent_long_lem s.args.p s.args.offline.now (disk s) (memory s zero_state) whole).5;
+    }
 
 pub returns-then-rule-ne0 : goal.returns-then-rule-ne0
 returns-then-rule-ne0 c =

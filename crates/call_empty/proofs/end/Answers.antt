@@ -56,7 +56,7 @@ checked-is c = c.checks-c.ensures (start c).args.state refl
 pub returns-in-Fail : goal.returns-in-Fail
 returns-in-Fail c =
     let at_checks = c.before.before.before in
-    let start' = c.before.before.before.before.before.before.before.before.before.before.before.before in
+    let start' = at_checks.before.before.before.before.before.before.before.before.before in
     let a = c.args in
     let e = sym (checked-is at_checks) ∙ ap checked c.in-Fail.is ∙ ap (λ (x : Change). some x.answer) (sym c.kept.ensures) in
     λ n. empty_refused a.p a.offline.now (disk start') (memory start') a.address.0 n c.kept.result
@@ -80,8 +80,8 @@ slot_of_lem c =
 pub returns-then-filling_slot-lt8 : goal.returns-then-filling_slot-lt8
 returns-then-filling_slot-lt8 c =
     let at_filling_slot = c.before.before.before.before.before.before in
-    let start' = c.before.before.before.before.before.before.before.before.before.before.before.before.before.before.before.before.before in
-    let at_enum_told = c.before.before.before.before.before.before.before in
+    let at_enum_told = at_filling_slot.before in
+    let start' = at_enum_told.before.before.before.before.before.before.before.before.before.before in
     let a = c.args in
     let i = c.filling_slot.result in
     let h : has_filling a.p a.state ≡ true = sym (slot_is a.p a.state i (slot_of_lem at_filling_slot)) ∙ lt-ltb i 8 c.if-filling_slot-lt8.true in
@@ -90,8 +90,9 @@ returns-then-filling_slot-lt8 c =
 
 pub state_ok-requires : goal.state_ok-requires
 state_ok-requires c =
-    let start' = c.before.before.before.before.before.before.before.before.before.before.before.before.before in
-    let at_enum_told = c.before.before.before in record { p_value = (first_passed c.args.p c.args.offline.now (disk start') (memory start') c.args.address.0 (passed at_enum_told)).0; bytes_len = c.requires.1 }
+    let at_enum_told = c.before.before.before in
+    let start' = at_enum_told.before.before.before.before.before.before.before.before.before.before in
+    record { p_value = (first_passed c.args.p c.args.offline.now (disk start') (memory start') c.args.address.0 (passed at_enum_told)).0; bytes_len = c.requires.1 }
 
 -- no stripe is filling
 idle-is : (c : Else1) → has_filling (start c.before.before.before).args.p (start c.before.before.before).args.state ≡ false
@@ -111,9 +112,9 @@ state_is c =
 pub returns-then-not-state_ok : goal.returns-then-not-state_ok
 returns-then-not-state_ok c =
     let at_state_ok = c.before.before.before in
-    let start' = c.before.before.before.before.before.before.before.before.before.before.before.before.before.before.before.before in
-    let at_enum_told = c.before.before.before.before.before.before in
-    let at_else = c.before.before.before.before in
+    let at_else = at_state_ok.before in
+    let at_enum_told = at_else.before.before in
+    let start' = at_enum_told.before.before.before.before.before.before.before.before.before.before in
     let a = c.args in
     let bad : state_ok a.p a.state ≡ false = sym (state_is at_state_ok) ∙ not-true c.state_ok.result c.if-not-state_ok.true-raw in
     let e = sym (empty_state_fails a.p a.offline.now (disk start') (memory start') a.address.0 (passed at_enum_told) (idle-is at_else) bad) in
@@ -122,9 +123,9 @@ returns-then-not-state_ok c =
 pub returns : goal.returns
 returns c =
     let at_state_ok = c.before.before.before in
-    let at_else = c.before.before.before.before in
-    let start' = c.before.before.before.before.before.before.before.before.before.before.before.before.before.before.before.before in
-    let at_enum_told = c.before.before.before.before.before.before in
+    let at_else = at_state_ok.before in
+    let at_enum_told = at_else.before.before in
+    let start' = at_enum_told.before.before.before.before.before.before.before.before.before.before in
     let a = c.args in
     let good : state_ok a.p a.state ≡ true = sym (state_is at_state_ok) ∙ not-false c.state_ok.result c.if-not-state_ok.false-raw in
     let idle = idle-is at_else in

@@ -35,9 +35,12 @@ loop-i-preserved c =
     let l = c.loop-i in
     let f : ℕ → Bool = λ k. not (is_free s k) in
     let r : c.if-not-is_free.n + length (keep f (up_from (l.i + 1) (8 - (l.i + 1)))) ≡ l.n + length (keep f (up_from l.i (8 - l.i))) =
-    elim c.if-not-is_free.branch [ then-not-is_free w ↦ ap (λ (x : ℕ). x + length (keep f (up_from (l.i + 1) (8 - (l.i + 1))))) w.n-is
-    ∙ sym (kept-one f l.i 8 l.n (omega arith) (ap not (sym c.is_free.ensures) ∙ w.if-not-is_free.true-raw)) | else-not-is_free w ↦ ap (λ (x : ℕ). x + length (keep f (up_from (l.i + 1) (8 - (l.i + 1))))) w.n-is
-    ∙ sym (kept_none f l.i 8 l.n (omega arith) (ap not (sym c.is_free.ensures) ∙ w.if-not-is_free.false-raw)) ] in
+    elim c.if-not-is_free.branch [
+      | then-not-is_free w ↦ ap (λ (x : ℕ). x + length (keep f (up_from (l.i + 1) (8 - (l.i + 1))))) w.n-is
+          ∙ sym (kept-one f l.i 8 l.n (omega arith) (ap not (sym c.is_free.ensures) ∙ w.if-not-is_free.true-raw))
+      | else-not-is_free w ↦ ap (λ (x : ℕ). x + length (keep f (up_from (l.i + 1) (8 - (l.i + 1))))) w.n-is
+          ∙ sym (kept_none f l.i 8 l.n (omega arith) (ap not (sym c.is_free.ensures) ∙ w.if-not-is_free.false-raw))
+    ] in
     let b : c.if-not-is_free.n ≤ l.i + 1 = elim c.if-not-is_free.branch [ then-not-is_free w ↦ omega (arith, w.n-is) | else-not-is_free w ↦ omega (arith, w.n-is) ] in
     (omega arith, b, r ∙ l.invariant.2)
 

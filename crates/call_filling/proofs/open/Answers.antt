@@ -33,12 +33,16 @@ header_stores-made-requires c =
     let e : a.a.opens ≡ true = not-false a.a.opens if1.false in
     let w = c.requires.whole.0 in
     let l = c.new_segment-g in
-    let g : l.result ≡ new_seg a.p (view_of a.p a.offline.now a.image.now a.pointers.now) = l.ensures.by_index a.image.now w.image_long in record { p_value = c.requires.p_value; whole = w; zones_low = (
-          l.ensures.zones_low,
-          λ d h.
-              subst (λ (x : Seg). pointer_of a.p a.pointers.now d (zone_on x d) < capacity a.p) (sym g)
-              (new_room a.p a.offline.now a.image.now a.pointers.now c.requires.p_value w.image_long w.pointers_long (c.requires.nonzero e) d h),
-        ) }
+    let g : l.result ≡ new_seg a.p (view_of a.p a.offline.now a.image.now a.pointers.now) = l.ensures.by_index a.image.now w.image_long in record {
+      p_value = c.requires.p_value;
+      whole = w;
+      zones_low = (
+        l.ensures.zones_low,
+        λ d h.
+            subst (λ (x : Seg). pointer_of a.p a.pointers.now d (zone_on x d) < capacity a.p) (sym g)
+            (new_room a.p a.offline.now a.image.now a.pointers.now c.requires.p_value w.image_long w.pointers_long (c.requires.nonzero e) d h),
+      );
+    }
 
 pub returns : goal.returns
 returns c =

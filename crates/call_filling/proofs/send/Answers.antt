@@ -13,7 +13,12 @@ use Rattle.call_filling.proofs.send.Goals as goal
 pub place-q-requires : goal.place-q-requires
 unfolding begun_row
 place-q-requires c =
-    let z : c.begun-first.result.filled ≡ 0 = ap (λ (x : Row). x.filled) c.begun-first.ensures in record { p_value = c.requires.p_value; i_bound = (c.requires.slot_bound.0, omega (arith, z, data_count-low c.args.p (ranged c.args.p c.requires.p_value)), c.requires.slot_bound.3, c.requires.slot_bound.4) }
+    let z : c.begun-first.result.filled ≡ 0 = ap (λ (x : Row). x.filled) c.begun-first.ensures in
+    record {
+      p_value = c.requires.p_value;
+      i_bound =
+          (c.requires.slot_bound.0, omega (arith, z, data_count-low c.args.p (ranged c.args.p c.requires.p_value)), c.requires.slot_bound.3, c.requires.slot_bound.4);
+    }
 
 pub returns-then-a : goal.returns-then-a
 unfolding sent_row

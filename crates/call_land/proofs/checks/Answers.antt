@@ -57,9 +57,12 @@ from s i = land_from s.args.p s.args.offline.now (diskIn s) (memoryIn s) s.args.
 pub returns-then-not-in_range : goal.returns-then-not-in_range
 returns-then-not-in_range c =
     let start = c.before.before.before.before.before.before.before.before.before.before.before in
-    let in_range_holds = c.in_range in record { check_value = c.refused.ensures
+    let in_range_holds = c.in_range in record {
+      check_value = c.refused.ensures
           ∙ land_range_fails c.args.p c.args.offline.now (diskIn start) (memoryIn start) c.args.drive c.args.stripe
-          (sym in_range_holds.ensures ∙ not-true in_range_holds.result c.if-not-in_range.true-raw); target_at = λ e. some_none (sym c.refused.ensures ∙ e) }
+          (sym in_range_holds.ensures ∙ not-true in_range_holds.result c.if-not-in_range.true-raw);
+      target_at = λ e. some_none (sym c.refused.ensures ∙ e);
+    }
 
 pub lent_ok-requires : goal.lent_ok-requires
 lent_ok-requires c = sym c.in_range.ensures ∙ not-false c.in_range.result c.if-not-in_range.false-raw
@@ -68,11 +71,14 @@ pub returns-then-not-lent_ok : goal.returns-then-not-lent_ok
 returns-then-not-lent_ok c =
     let start = c.before.before.before.before.before.before.before.before.before.before.before.before.before in
     let lent_ok = c.lent_ok in
-    let in_range_holds = c.in_range in record { check_value = c.refused-then-not-lent_ok.ensures
+    let in_range_holds = c.in_range in record {
+      check_value = c.refused-then-not-lent_ok.ensures
           ∙ land_lengths_fail c.args.p c.args.offline.now (diskIn start) (memoryIn start) c.args.drive c.args.stripe
           (sym (lent_ok.ensures (memoryIn start).state) ∙ not-true lent_ok.result c.if-not-lent_ok.true-raw)
           ∙ land_range_passes c.args.p c.args.offline.now (diskIn start) (memoryIn start) c.args.drive c.args.stripe
-          (sym in_range_holds.ensures ∙ not-false in_range_holds.result c.if-not-in_range.false-raw); target_at = λ e. some_none (sym c.refused-then-not-lent_ok.ensures ∙ e) }
+          (sym in_range_holds.ensures ∙ not-false in_range_holds.result c.if-not-in_range.false-raw);
+      target_at = λ e. some_none (sym c.refused-then-not-lent_ok.ensures ∙ e);
+    }
 
 module _ (c : Else2) where
   abbrev begun : Start
@@ -98,9 +104,12 @@ pub returns-then-rule-ne0 : goal.returns-then-rule-ne0
 returns-then-rule-ne0 c =
     let at_else = c.before.before.before.before in
     let s = begun at_else in
-    let list-rule = c.list_rule-rule in record { check_value = c.refused-then-rule-ne0.ensures
+    let list-rule = c.list_rule-rule in record {
+      check_value = c.refused-then-rule-ne0.ensures
           ∙ land_list_fails s.args.p s.args.offline.now (diskIn s) (memoryIn s) s.args.drive s.args.stripe
-          list-rule.result list-rule.ensures c.if-rule-ne0.true ∙ fitting at_else; target_at = λ e. some_none (sym c.refused-then-rule-ne0.ensures ∙ e) }
+          list-rule.result list-rule.ensures c.if-rule-ne0.true ∙ fitting at_else;
+      target_at = λ e. some_none (sym c.refused-then-rule-ne0.ensures ∙ e);
+    }
 
 module _ (c : Else3) where
   abbrev listed : Start
@@ -109,15 +118,19 @@ module _ (c : Else3) where
   -- nor do 10 and the narrow 1
   enough : from listed 4 ≡ from listed 0
   enough =
-      land_list_passes listed.args.p listed.args.offline.now (diskIn listed) (memoryIn listed) listed.args.drive listed.args.stripe c.before.list_rule-rule.result c.before.list_rule-rule.ensures c.if-rule-ne0.false
+      land_list_passes listed.args.p listed.args.offline.now (diskIn listed) (memoryIn listed) listed.args.drive listed.args.stripe c.before.list_rule-rule.result
+      c.before.list_rule-rule.ensures c.if-rule-ne0.false
       ∙ fitting c.before.before
 
 pub returns-then-missing-ne0 : goal.returns-then-missing-ne0
 returns-then-missing-ne0 c =
     let at_else = c.before.before.before in
-    let s = listed at_else in record { check_value = c.refused-then-missing-ne0.ensures
+    let s = listed at_else in record {
+      check_value = c.refused-then-missing-ne0.ensures
           ∙ land_missing_fails s.args.p s.args.offline.now (diskIn s) (memoryIn s) s.args.drive s.args.stripe
-          (λ e. c.if-missing-ne0.true (s.requires.missing_value.0 ∙ e)) ∙ enough at_else; target_at = λ e. some_none (sym c.refused-then-missing-ne0.ensures ∙ e) }
+          (λ e. c.if-missing-ne0.true (s.requires.missing_value.0 ∙ e)) ∙ enough at_else;
+      target_at = λ e. some_none (sym c.refused-then-missing-ne0.ensures ∙ e);
+    }
 
 module _ (c : Else4) where
   -- nor does 3
@@ -144,10 +157,13 @@ module _ (c : After-waiting) where
 pub returns-then-not-waiting : goal.returns-then-not-waiting
 returns-then-not-waiting c =
     let at_waiting = c.before.before.before in
-    let at_else = c.before.before.before.before.before in
-    let s = asked at_waiting in record { check_value = c.refused-then-not-waiting.ensures
+    let at_else = at_waiting.before.before in
+    let s = asked at_waiting in record {
+      check_value = c.refused-then-not-waiting.ensures
           ∙ waiting_fails s.args.p s.args.offline.now (diskIn s) (memoryIn s) s.args.drive s.args.stripe
-          (sym (waits-is at_waiting) ∙ not-true c.waiting.result c.if-not-waiting.true-raw) ∙ healthy at_else; target_at = λ e. some_none (sym c.refused-then-not-waiting.ensures ∙ e) }
+          (sym (waits-is at_waiting) ∙ not-true c.waiting.result c.if-not-waiting.true-raw) ∙ healthy at_else;
+      target_at = λ e. some_none (sym c.refused-then-not-waiting.ensures ∙ e);
+    }
 
 module _ (c : Else5) where
   -- nor does 5
@@ -165,12 +181,15 @@ state_ok-requires c =
 
 pub returns-then-not-state_ok : goal.returns-then-not-state_ok
 returns-then-not-state_ok c =
-    let at_waiting = c.before.before.before.before.before in
     let at_else = c.before.before.before.before in
+    let at_waiting = at_else.before in
     let s = asked at_waiting in
-    let state_ok_holds = c.state_ok in record { check_value = c.refused-then-not-state_ok.ensures
+    let state_ok_holds = c.state_ok in record {
+      check_value = c.refused-then-not-state_ok.ensures
           ∙ land_state_fails s.args.p s.args.offline.now (diskIn s) (memoryIn s) s.args.drive s.args.stripe
-          (sym state_ok_holds.ensures ∙ not-true state_ok_holds.result c.if-not-state_ok.true-raw) ∙ waited at_else; target_at = λ e. some_none (sym c.refused-then-not-state_ok.ensures ∙ e) }
+          (sym state_ok_holds.ensures ∙ not-true state_ok_holds.result c.if-not-state_ok.true-raw) ∙ waited at_else;
+      target_at = λ e. some_none (sym c.refused-then-not-state_ok.ensures ∙ e);
+    }
 
 module _ (c : Else6) where
   abbrev done : Start
@@ -194,14 +213,18 @@ module _ (c : Else6) where
 
 pub zone_checks-requires : goal.zone_checks-requires
 zone_checks-requires c =
-    let at_else = c.before.before.before.before.before.before.before.before.before in
     let at_else' = c.before.before.before in
+    let at_else = at_else'.before.before.before.before.before.before in
     let s = begun at_else in
     let l = lent_long_lem s.args.p s.args.offline.now (diskIn s) (memoryIn s) (lent at_else) in
-    let w = waits_low s.args.p (memoryIn s).state s.args.drive s.args.stripe (waits at_else') in record { p_value = ranged at_else; whole = (record { image_long = l.0; pointers_long = l.1 }, l.5, l.2); drive_lt_n = (w.0, (memoryIn s, looked c.before)) }
+    let w = waits_low s.args.p (memoryIn s).state s.args.drive s.args.stripe (waits at_else') in
+    record { p_value = ranged at_else; whole = (record { image_long = l.0; pointers_long = l.1 }, l.5, l.2); drive_lt_n = (w.0, (memoryIn s, looked c.before)) }
 
 pub returns : goal.returns
 returns c =
     let at_else = c.before.before.before.before in
-    let s = done c.before.before in record { check_value = c.zone_checks.ensures.check_value (memoryIn s) (looked c.before.before)
-          ∙ land_state_passes s.args.p s.args.offline.now (diskIn s) (memoryIn s) s.args.drive s.args.stripe (fine c.before.before) ∙ waited at_else; target_at = c.zone_checks.ensures.target_at (memoryIn s) (looked c.before.before) }
+    let s = done c.before.before in record {
+      check_value = c.zone_checks.ensures.check_value (memoryIn s) (looked c.before.before)
+          ∙ land_state_passes s.args.p s.args.offline.now (diskIn s) (memoryIn s) s.args.drive s.args.stripe (fine c.before.before) ∙ waited at_else;
+      target_at = c.zone_checks.ensures.target_at (memoryIn s) (looked c.before.before);
+    }

@@ -36,7 +36,11 @@ pub checks-sight-requires : goal.checks-sight-requires
 checks-sight-requires c =
     let l = c.look_at-seen in
     let a = c.args in
-    let e = c.requires.0 in record { looks = subst (λ (x : State). Looks a.p x a.drive a.stripe l.result) e l.ensures; missing_value = (ap (λ (x : State). x.missing) e, c.requires.1, ap (λ (x : State). x.opened) e) }
+    let e = c.requires.0 in record {
+      looks = subst (λ (x : State). Looks a.p x a.drive a.stripe l.result) e l.ensures;
+      missing_value =
+          (ap (λ (x : State). x.missing) e, c.requires.1, ap (λ (x : State). x.opened) e);
+    }
 
 -- the refusal is that of the state
 abbrev start : After-checks → Start
@@ -57,8 +61,8 @@ checked-is c = subst (λ (x : State). checked c.checks-sight.result.check ≡ re
 
 pub returns-in-Fail : goal.returns-in-Fail
 returns-in-Fail c =
-    let start' = c.before.before.before.before.before.before.before.before.before.before.before.before.before in
     let at_checks = c.before.before.before in
+    let start' = at_checks.before.before.before.before.before.before.before.before.before.before in
     let a = c.args in
     let e = sym (ap (λ (x : Change). x.answer) c.kept.ensures) in
     land_refused a.p a.offline.now (disk start') (memory start' a.state) a.drive a.stripe a.count c.kept.result

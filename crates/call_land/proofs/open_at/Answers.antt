@@ -12,7 +12,12 @@ open_whole-requires c = let q = c.requires in record { p_value = q.p_value; whol
 
 pub returns-then-done : goal.returns-then-done
 returns-then-done c =
-    let w = c.open_whole in record { st_value = w.ensures.st_value; target_at = λ st e x. let t = w.ensures.target_at st e x in record { some = t.some; zone = t.zone; whole = λ b. t.whole refl }; zone_le_z = w.ensures.zone_le_z }
+    let w = c.open_whole in record {
+      st_value = w.ensures.st_value;
+      target_at = λ st e x. let t = w.ensures.target_at st e x in
+          record { some = t.some; zone = t.zone; whole = λ b. t.whole refl };
+      zone_le_z = w.ensures.zone_le_z;
+    }
 
 pub open_zone-zone-requires : goal.open_zone-zone-requires
 open_zone-zone-requires c = let q = c.requires in record { p_value = q.p_value; whole = (q.whole.0, q.whole.1, q.whole.2) }
@@ -22,8 +27,12 @@ returns c =
     let a = c.args in
     let v : View = view_of a.p a.offline.now a.image.now a.pointers.now in
     let y = c.open_zone-zone.ensures in
-    let z : OpenedOn a.p v a.drive a.opened c.open_zone-zone.result = (y.st_value, y.value, y.upper_bound) in record { st_value = z.0; target_at = λ st e x. record {
-          some = z.0 st e ∙ ne_eqb c.open_zone-zone.result a.p.Z x;
-          zone = z.1 st e (lt_of_le-ne z.2 x);
-          whole = λ b. clash b c.if-done.false;
-        }; zone_le_z = z.2 }
+    let z : OpenedOn a.p v a.drive a.opened c.open_zone-zone.result = (y.st_value, y.value, y.upper_bound) in record {
+      st_value = z.0;
+      target_at = λ st e x. record {
+        some = z.0 st e ∙ ne_eqb c.open_zone-zone.result a.p.Z x;
+        zone = z.1 st e (lt_of_le-ne z.2 x);
+        whole = λ b. clash b c.if-done.false;
+      };
+      zone_le_z = z.2;
+    }

@@ -56,7 +56,13 @@ open_segment-segment-requires c =
     let b = begun at_open_zone in
     let r = ranged b.args.p b.requires.p_value in
     let q = remains at_open_zone c.if-first-p.false in
-    let l = low at_open_zone c.if-first-p.false in record { p_value = b.requires.p_value; whole = (b.requires.whole.0, b.requires.whole.1); serial_value = (q, l, found_zone b.args.p r (view at_open_zone) b.args.opened 0 c.open_zone-first.result q (omega (arith, r.drives_low)) (λ st e. (said at_open_zone).1 st e l)) }
+    let l = low at_open_zone c.if-first-p.false in
+    record {
+      p_value = b.requires.p_value;
+      whole = (b.requires.whole.0, b.requires.whole.1);
+      serial_value =
+          (q, l, found_zone b.args.p r (view at_open_zone) b.args.opened 0 c.open_zone-first.result q (omega (arith, r.drives_low)) (λ st e. (said at_open_zone).1 st e l));
+    }
 
 pub zone_on-zone-requires : goal.zone_on-zone-requires
 zone_on-zone-requires c =
@@ -73,8 +79,12 @@ returns c =
     let o : OpenedOn b.args.p (view at_open_zone) b.args.drive b.args.opened c.zone_on-zone.result =
     opened_at b.args.p r (view at_open_zone) b.args.drive b.args.opened c.zone_on-zone.result q b.requires.whole.2
     (found_zone b.args.p r (view at_open_zone) b.args.opened b.args.drive c.zone_on-zone.result q b.requires.whole.2
-    (λ st e. c.zone_on-zone.ensures ∙ ap (λ (x : Seg). zone_on x b.args.drive) (g.ensures st e))) in record { st_value = o.0; target_at = λ st e x. record {
-          some = o.0 st e ∙ ne_eqb c.zone_on-zone.result b.args.p.Z x;
-          zone = o.1 st e (lt_of_le-ne o.2 x);
-          whole = λ w. g.ensures st e;
-        }; zone_le_z = o.2 }
+    (λ st e. c.zone_on-zone.ensures ∙ ap (λ (x : Seg). zone_on x b.args.drive) (g.ensures st e))) in record {
+      st_value = o.0;
+      target_at = λ st e x. record {
+        some = o.0 st e ∙ ne_eqb c.zone_on-zone.result b.args.p.Z x;
+        zone = o.1 st e (lt_of_le-ne o.2 x);
+        whole = λ w. g.ensures st e;
+      };
+      zone_le_z = o.2;
+    }

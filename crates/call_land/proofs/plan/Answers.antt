@@ -53,7 +53,8 @@ store_chunk-marked-requires c =
     let f : filled_in_of (alone a.seen.row) 0 ≤ 8 = subst (λ (x : Row). filled_in_of (alone x) 0 ≤ 8) (sym (w.row r.slot_low)) (row_eight p off k m d s r) in
     let z = subst (λ (x : ℕ). x < p.Z) e (open_zone_low p off k m d s r) in
     let l = subst (λ (x : ℕ). 1 ≤ pointer_of p k.pointers d x) e q.0 in
-    let h = subst (λ (x : ℕ). pointer_of p k.pointers d x ≤ p.S) e q.1 in record { p_value = r.ranged; whole = r.whole; compact_len = (r.compact_long, r.inflight_long, subst (λ (x : ℕ). x < 8) (sym w.slot) r.slot_low, f); drive_lt_n = (r.drive_low, z, l, h) }
+    let h = subst (λ (x : ℕ). pointer_of p k.pointers d x ≤ p.S) e q.1 in
+    record { p_value = r.ranged; whole = r.whole; compact_len = (r.compact_long, r.inflight_long, subst (λ (x : ℕ). x < 8) (sym w.slot) r.slot_low, f); drive_lt_n = (r.drive_low, z, l, h) }
 
 pub returns-then-not-seen : goal.returns-then-not-seen
 returns-then-not-seen c st ch =
@@ -97,12 +98,18 @@ complete-answer-requires c =
     let u = store_Chunk.ensures in
     let x = chunked p off k m d s r ch.sized a.seen w a.target.zone ch.target.zone store_Chunk.result k₁ co₁ u.pointers_after u.compact_after.0 u.compact_after.1 in
     let b : a.seen.done ≡ true = not-false a.seen.done if2.false in
-    let f : completes p st (slot_of st s) d ≡ true = sym (look_done p st d s a.seen w r.slot_low) ∙ b in record { p_value = (complete_ready p off k m d s r ch.sized f store_Chunk.result a.target.segment a.seen.seals k₁ x.0 (ch.target.whole b)
-    (look_seals p st d s a.seen w r.slot_low) x.1).0; whole = (complete_ready p off k m d s r ch.sized f store_Chunk.result a.target.segment a.seen.seals k₁ x.0 (ch.target.whole b)
-    (look_seals p st d s a.seen w r.slot_low) x.1).1.0; addresses_len = (complete_ready p off k m d s r ch.sized f store_Chunk.result a.target.segment a.seen.seals k₁ x.0 (ch.target.whole b)
-    (look_seals p st d s a.seen w r.slot_low) x.1).1.1.0; row_bound = (complete_ready p off k m d s r ch.sized f store_Chunk.result a.target.segment a.seen.seals k₁ x.0 (ch.target.whole b)
-    (look_seals p st d s a.seen w r.slot_low) x.1).1.1.1.0; zones_low = (complete_ready p off k m d s r ch.sized f store_Chunk.result a.target.segment a.seen.seals k₁ x.0 (ch.target.whole b)
-    (look_seals p st d s a.seen w r.slot_low) x.1).1.1.1.1 }
+    let f : completes p st (slot_of st s) d ≡ true = sym (look_done p st d s a.seen w r.slot_low) ∙ b in record {
+      p_value = (complete_ready p off k m d s r ch.sized f store_Chunk.result a.target.segment a.seen.seals k₁ x.0 (ch.target.whole b)
+          (look_seals p st d s a.seen w r.slot_low) x.1).0;
+      whole = (complete_ready p off k m d s r ch.sized f store_Chunk.result a.target.segment a.seen.seals k₁ x.0 (ch.target.whole b)
+          (look_seals p st d s a.seen w r.slot_low) x.1).1.0;
+      addresses_len = (complete_ready p off k m d s r ch.sized f store_Chunk.result a.target.segment a.seen.seals k₁ x.0 (ch.target.whole b)
+          (look_seals p st d s a.seen w r.slot_low) x.1).1.1.0;
+      row_bound = (complete_ready p off k m d s r ch.sized f store_Chunk.result a.target.segment a.seen.seals k₁ x.0 (ch.target.whole b)
+          (look_seals p st d s a.seen w r.slot_low) x.1).1.1.1.0;
+      zones_low = (complete_ready p off k m d s r ch.sized f store_Chunk.result a.target.segment a.seen.seals k₁ x.0 (ch.target.whole b)
+          (look_seals p st d s a.seen w r.slot_low) x.1).1.1.1.1;
+    }
 
 pub shape_of-image : goal.shape_of-image
 shape_of-image c =

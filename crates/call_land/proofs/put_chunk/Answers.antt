@@ -51,7 +51,8 @@ put-requires c =
     let t = slot-byte.result in
     let b = a.p.B in
     let l : length (take (t + b - t) (drop t a.inflight.now)) ≡ b =
-    ap length (part_lent t b a.inflight.now) ∙ length_part t b a.inflight.now (omega (arith, slot-byte.ensures.1, q.inflight_len.0)) in record { p_value = q.p_value; whole = q.whole; drive_lt_n = q.drive_lt_n; block_len = (l, ap length write-record.ensures ∙ length_record (rec_val flight-record.result)) }
+    ap length (part_lent t b a.inflight.now) ∙ length_part t b a.inflight.now (omega (arith, slot-byte.ensures.1, q.inflight_len.0)) in
+    record { p_value = q.p_value; whole = q.whole; drive_lt_n = q.drive_lt_n; block_len = (l, ap length write-record.ensures ∙ length_record (rec_val flight-record.result)) }
 
 pub returns : goal.returns
 unfolding slot_block

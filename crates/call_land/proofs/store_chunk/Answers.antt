@@ -26,7 +26,8 @@ put_chunk-requires c =
     let a = c.args in
     let q = c.requires in
     let h = q.drive_lt_n in
-    let n : pointer_of a.p a.pointers.now a.drive a.zone < capacity a.p = data_below a.p (ranged a.p q.p_value) (pointer_of a.p a.pointers.now a.drive a.zone) h.3 in record { p_value = q.p_value; whole = q.whole; inflight_len = (q.compact_len.1, q.compact_len.2, q.compact_len.3); drive_lt_n = (h.0, h.1, n) }
+    let n : pointer_of a.p a.pointers.now a.drive a.zone < capacity a.p = data_below a.p (ranged a.p q.p_value) (pointer_of a.p a.pointers.now a.drive a.zone) h.3 in
+    record { p_value = q.p_value; whole = q.whole; inflight_len = (q.compact_len.1, q.compact_len.2, q.compact_len.3); drive_lt_n = (h.0, h.1, n) }
 
 pub show_chunk-requires : goal.show_chunk-requires
 show_chunk-requires c =
@@ -50,7 +51,10 @@ returns c =
     let put-chunk = c.put_chunk in
     let n = c.pointer.ensures in
     let p = a.p in
-    let d = a.drive in record { pointers_after = put-chunk.ensures; compact_after = (
+    let d = a.drive in record {
+      pointers_after = put-chunk.ensures;
+      compact_after = (
         show-chunk.ensures ∙ ap (λ (x : ℕ). set a.compact.now (compact_at p d a.zone (x - 1)) (compact_entry p a.stripe)) n,
         c.mark_landed.ensures ∙ ap (λ (x : ℕ). mark_row a.row d (x - 1)) n,
-      ) }
+      );
+    }

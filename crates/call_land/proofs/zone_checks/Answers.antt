@@ -15,8 +15,11 @@ returns-then-target-p c =
     let a = c.args in
     let q = c.requires in
     let target = c.open_at-target in
-    let v : View = view_of a.p a.offline.now a.image.now a.pointers.now in record { check_value = λ m w. c.refused.ensures ∙ open_fails a.p v m a.addresses.now a.opened a.drive a.stripe a.seen w q.p_value
-          (target.ensures.st_value m.state w.opened_is ∙ eq-eqb target.result.zone a.p.Z c.if-target-p.true); target_at = λ m w e. some_none (sym c.refused.ensures ∙ e) }
+    let v : View = view_of a.p a.offline.now a.image.now a.pointers.now in record {
+      check_value = λ m w. c.refused.ensures ∙ open_fails a.p v m a.addresses.now a.opened a.drive a.stripe a.seen w q.p_value
+          (target.ensures.st_value m.state w.opened_is ∙ eq-eqb target.result.zone a.p.Z c.if-target-p.true);
+      target_at = λ m w e. some_none (sym c.refused.ensures ∙ e);
+    }
 
 pub land_fault-z-requires : goal.land_fault-z-requires
 land_fault-z-requires c =
@@ -27,12 +30,16 @@ land_fault-z-requires c =
     let v : View = view_of p a.offline.now a.image.now a.pointers.now in
     let m = q.drive_lt_n.1.0 in
     let w = q.drive_lt_n.1.1 in
-    let o = target.ensures.target_at m.state w.opened_is c.if-target-p.false in record { p_value = q.p_value; whole = q.whole; d_lt_n = (
-          q.drive_lt_n.0,
-          looked_zone p v m a.addresses.now a.opened a.drive a.stripe a.seen w q.p_value target.result o q.drive_lt_n.0,
-          looked_low p v m a.addresses.now a.opened a.drive a.stripe a.seen w q.p_value target.result o,
-          looked_filled p v m a.addresses.now a.opened a.drive a.stripe a.seen w q.p_value,
-        ) }
+    let o = target.ensures.target_at m.state w.opened_is c.if-target-p.false in record {
+      p_value = q.p_value;
+      whole = q.whole;
+      d_lt_n = (
+        q.drive_lt_n.0,
+        looked_zone p v m a.addresses.now a.opened a.drive a.stripe a.seen w q.p_value target.result o q.drive_lt_n.0,
+        looked_low p v m a.addresses.now a.opened a.drive a.stripe a.seen w q.p_value target.result o,
+        looked_filled p v m a.addresses.now a.opened a.drive a.stripe a.seen w q.p_value,
+      );
+    }
 
 pub returns : goal.returns
 returns c =
@@ -40,5 +47,8 @@ returns c =
     let q = c.requires in
     let target = c.open_at-target in
     let p = a.p in
-    let v : View = view_of p a.offline.now a.image.now a.pointers.now in record { check_value = λ m w. c.zone_check-check.ensures ∙ faults_refused p v m a.addresses.now a.opened a.drive a.stripe a.seen w q.p_value target.result
-          (target.ensures.target_at m.state w.opened_is c.if-target-p.false) q.drive_lt_n.0 c.land_fault-z.result c.land_fault-z.ensures; target_at = λ m w e. target.ensures.target_at m.state w.opened_is c.if-target-p.false }
+    let v : View = view_of p a.offline.now a.image.now a.pointers.now in record {
+      check_value = λ m w. c.zone_check-check.ensures ∙ faults_refused p v m a.addresses.now a.opened a.drive a.stripe a.seen w q.p_value target.result
+          (target.ensures.target_at m.state w.opened_is c.if-target-p.false) q.drive_lt_n.0 c.land_fault-z.result c.land_fault-z.ensures;
+      target_at = λ m w e. target.ensures.target_at m.state w.opened_is c.if-target-p.false;
+    }

@@ -41,7 +41,12 @@ loop-k-preserved c =
     let f : ℕ → Bool = is_write (alone r) 0 in
     let t : List ℕ = up_from (l.k + 1) (m - (l.k + 1)) in
     let b : c.if-has_drive.n + length (keep f t) ≡ l.n + length (keep f (up_from l.k (m - l.k))) =
-    elim c.if-has_drive.branch [ then-has_drive w ↦ ap (λ (x : ℕ). x + length (keep f t)) w.n-is ∙ sym (kept-one f l.k m l.n (omega arith) (sym c.has_drive.ensures ∙ w.if-has_drive.true)) | else-has_drive w ↦ ap (λ (x : ℕ). x + length (keep f t)) w.n-is ∙ sym (kept_none f l.k m l.n (omega arith) (sym c.has_drive.ensures ∙ w.if-has_drive.false)) ] in
+    elim c.if-has_drive.branch [
+      | then-has_drive w ↦ ap (λ (x : ℕ). x + length (keep f t)) w.n-is
+          ∙ sym (kept-one f l.k m l.n (omega arith) (sym c.has_drive.ensures ∙ w.if-has_drive.true))
+      | else-has_drive w ↦ ap (λ (x : ℕ). x + length (keep f t))
+          w.n-is ∙ sym (kept_none f l.k m l.n (omega arith) (sym c.has_drive.ensures ∙ w.if-has_drive.false))
+    ] in
     let h : c.if-has_drive.n ≤ l.k + 1 = elim c.if-has_drive.branch [ then-has_drive w ↦ omega (arith, w.n-is) | else-has_drive w ↦ omega (arith, w.n-is) ] in
     (l.invariant.0, omega arith, h, b ∙ l.invariant.3)
 

@@ -56,7 +56,12 @@ loop-k-preserved c =
     let w : l.worst ≤ p.Z = l.invariant.2 in
     let e : f k ≡ cons_if (ltb z p.Z) z [] = c.entry_fault-z.ensures (entry_in_of (alone a.row) 0 k) (sym (ap (λ (r : Rec). r.address) entry.ensures)) in
     let g : least c.if-z-worst.worst (faults_from p.Z f (k + 1) n) ≡ least l.worst (faults_from p.Z f k n) =
-    elim c.if-z-worst.branch [ then-z-worst x ↦ ap (λ (y : ℕ). least y (faults_from p.Z f (k + 1) n)) x.worst-is ∙ faults_lower p.Z f l.worst z k n m e (omega (arith, x.if-z-worst.true)) w | else-z-worst x ↦ ap (λ (y : ℕ). least y (faults_from p.Z f (k + 1) n)) x.worst-is ∙ faults_same p.Z f l.worst z k n m e (omega (arith, x.if-z-worst.false)) ] in
+    elim c.if-z-worst.branch [
+      | then-z-worst x ↦ ap (λ (y : ℕ). least y (faults_from p.Z f (k + 1) n)) x.worst-is
+          ∙ faults_lower p.Z f l.worst z k n m e (omega (arith, x.if-z-worst.true)) w
+      | else-z-worst x ↦ ap (λ (y : ℕ). least y (faults_from p.Z f (k + 1) n))
+          x.worst-is ∙ faults_same p.Z f l.worst z k n m e (omega (arith, x.if-z-worst.false))
+    ] in
     let b : c.if-z-worst.worst ≤ p.Z = elim c.if-z-worst.branch [ then-z-worst x ↦ omega (arith, x.worst-is, x.if-z-worst.true, w) | else-z-worst x ↦ omega (arith, x.worst-is, w) ] in
     (l.invariant.0, omega arith, b, g ∙ l.invariant.3)
 

@@ -15,7 +15,11 @@ use Rattle.call_land_faults.proofs.no_room.Goals as goal
 pub pointer-n-requires : goal.pointer-n-requires
 pointer-n-requires c =
     let a = c.args in
-    let q = c.requires in record { p_value = q.p_value; pointers_len = (q.pointers_len.0, q.pointers_len.1, omega (arith, c.zone_on-zone.ensures, low_here a.p a.segment a.e q.pointers_len.2 q.pointers_len.1)) }
+    let q = c.requires in record {
+      p_value = q.p_value;
+      pointers_len =
+          (q.pointers_len.0, q.pointers_len.1, omega (arith, c.zone_on-zone.ensures, low_here a.p a.segment a.e q.pointers_len.2 q.pointers_len.1));
+    }
 
 pub returns-then-e-d : goal.returns-then-e-d
 unfolding over_by

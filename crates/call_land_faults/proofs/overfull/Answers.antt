@@ -38,7 +38,12 @@ loop-e-preserved c =
     let w : l.worst ≤ p.Z = l.invariant.1 in
     let q = c.full_zone-z.ensures in
     let g : least c.if-z-worst.worst (faults_from p.Z f (e + 1) p.N) ≡ least l.worst (faults_from p.Z f e p.N) =
-    elim c.if-z-worst.branch [ then-z-worst x ↦ ap (λ (y : ℕ). least y (faults_from p.Z f (e + 1) p.N)) x.worst-is ∙ faults_lower p.Z f l.worst z e p.N m q (omega (arith, x.if-z-worst.true)) w | else-z-worst x ↦ ap (λ (y : ℕ). least y (faults_from p.Z f (e + 1) p.N)) x.worst-is ∙ faults_same p.Z f l.worst z e p.N m q (omega (arith, x.if-z-worst.false)) ] in
+    elim c.if-z-worst.branch [
+      | then-z-worst x ↦ ap (λ (y : ℕ). least y (faults_from p.Z f (e + 1) p.N)) x.worst-is
+          ∙ faults_lower p.Z f l.worst z e p.N m q (omega (arith, x.if-z-worst.true)) w
+      | else-z-worst x ↦ ap (λ (y : ℕ). least y (faults_from p.Z f (e + 1) p.N))
+          x.worst-is ∙ faults_same p.Z f l.worst z e p.N m q (omega (arith, x.if-z-worst.false))
+    ] in
     let b : c.if-z-worst.worst ≤ p.Z = elim c.if-z-worst.branch [ then-z-worst x ↦ omega (arith, x.worst-is, x.if-z-worst.true, w) | else-z-worst x ↦ omega (arith, x.worst-is, w) ] in
     (omega arith, b, g ∙ l.invariant.2)
 
@@ -48,5 +53,8 @@ returns c =
     let q = c.requires.pointers_len in
     let l = c.loop-e in
     let p = a.p in
-    let f : ℕ → List ℕ = λ x. cons_if (over_by p a.pointers.now a.d a.segment x) (zone_on a.segment x) [] in record { by_index = λ off im h. sym (faults_end p.Z f l.worst l.e p.N (omega (arith, c.loop-e-test.false)))
-          ∙ l.invariant.2 ∙ ap (least a.zone) (over_view p off im a.pointers.now h q.0 a.d a.segment q.1); upper_bound = l.invariant.1 }
+    let f : ℕ → List ℕ = λ x. cons_if (over_by p a.pointers.now a.d a.segment x) (zone_on a.segment x) [] in record {
+      by_index = λ off im h. sym (faults_end p.Z f l.worst l.e p.N (omega (arith, c.loop-e-test.false)))
+          ∙ l.invariant.2 ∙ ap (least a.zone) (over_view p off im a.pointers.now h q.0 a.d a.segment q.1);
+      upper_bound = l.invariant.1;
+    }

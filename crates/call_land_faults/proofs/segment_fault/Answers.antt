@@ -17,10 +17,13 @@ chunk_fault-z-requires c =
 pub returns-then-not-seals : goal.returns-then-not-seals
 returns-then-not-seals c =
     let a = c.args in
-    let p = a.p in record { by_index = λ off im h.
+    let p = a.p in record {
+      by_index = λ off im h.
           let v : View = view_of p off im a.pointers.now in
           c.chunk_fault-z.ensures.by_index off im h
-          ∙ ap (λ (x : Bool). least p.Z (open_faults p v [] [] a.d a.zone a.segment a.stripe x)) (sym (not-true a.seals c.if-not-seals.true-raw)); upper_bound = c.chunk_fault-z.ensures.upper_bound }
+          ∙ ap (λ (x : Bool). least p.Z (open_faults p v [] [] a.d a.zone a.segment a.stripe x)) (sym (not-true a.seals c.if-not-seals.true-raw));
+      upper_bound = c.chunk_fault-z.ensures.upper_bound;
+    }
 
 pub overfull-requires : goal.overfull-requires
 overfull-requires c =
@@ -30,8 +33,11 @@ overfull-requires c =
 pub returns : goal.returns
 returns c =
     let a = c.args in
-    let p = a.p in record { by_index = λ off im h.
+    let p = a.p in record {
+      by_index = λ off im h.
           let v : View = view_of p off im a.pointers.now in
           c.overfull.ensures.by_index off im h ∙ ap (λ (x : ℕ). least x (overfull p v a.d a.segment)) (c.chunk_fault-z.ensures.by_index off im h)
           ∙ faults_sealed p v [] [] a.d a.zone a.segment a.stripe
-          ∙ ap (λ (x : Bool). least p.Z (open_faults p v [] [] a.d a.zone a.segment a.stripe x)) (sym (not-false a.seals c.if-not-seals.false-raw)); upper_bound = c.overfull.ensures.upper_bound }
+          ∙ ap (λ (x : Bool). least p.Z (open_faults p v [] [] a.d a.zone a.segment a.stripe x)) (sym (not-false a.seals c.if-not-seals.false-raw));
+      upper_bound = c.overfull.ensures.upper_bound;
+    }

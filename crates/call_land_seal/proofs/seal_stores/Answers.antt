@@ -52,7 +52,14 @@ footer_stores-made-requires c =
     let p = a.p in
     let z = zone_on_holds.ensures in
     let n : footers'.result ≡ footers p = footers'.ensures.0 in
-    let h : pointer_of p l.pointers l.d zone_on_holds.result + footers p ≤ capacity p = subst (λ (x : ℕ). pointer_of p l.pointers l.d x + footers p ≤ capacity p) (sym z) (room (goal.at.footer_stores-made-requires c).After-footer_stores-arg-in-loop-d-1) in record { p_value = q.p_value; whole = (l.invariant.1 []).whole; drive_lt_n = (if1.true, omega (arith, z, low_here p a.segment l.d q.zones_low.0 if1.true), omega (arith, n), omega (arith, n, h)) }
+    let h : pointer_of p l.pointers l.d zone_on_holds.result + footers p ≤ capacity p = subst (λ (x : ℕ). pointer_of p l.pointers l.d x + footers p ≤ capacity p)
+    (sym z) (room (goal.at.footer_stores-made-requires c).After-footer_stores-arg-in-loop-d-1) in
+    record {
+      p_value = q.p_value;
+      whole = (l.invariant.1 []).whole;
+      drive_lt_n =
+          (if1.true, omega (arith, z, low_here p a.segment l.d q.zones_low.0 if1.true), omega (arith, n), omega (arith, n, h));
+    }
 
 -- what the call leaves, with the zone and the number named
 left_by : (c : After-slice_known-in-loop-d-2-1) (off : List ℕ)
@@ -124,8 +131,7 @@ loop-d-preserved c =
     let l = c.loop-d in
     let footer-stores = c.footer_stores-made in
     let if1 = c.loop-d-test in
-    let pre = c.requires in
-    (
+    let pre = c.requires in (
       l.invariant.0,
       λ off. sealing_turn a.p off (mk_disk a.image.now a.pointers.now) a.segment a.count l.d l.left (mk_disk l.image l.pointers)
           (l.invariant.1 off) if1.true pre.zones_low.0 footer-stores.result (mk_disk footer-stores.new.image footer-stores.new.pointers)

@@ -30,7 +30,8 @@ held_cand-requires c =
     let q = c.requires in
     let place_at = c.place_at-place in
     let v : View = view_of a.p a.offline.now a.image.now a.pointers.now in
-    let h = q.addresses_len.2 (λ e. c.if-place.false (place_at.ensures ∙ e)) in record { p_value = q.p_value; whole = q.whole; data_place = subst (λ (x : ℕ). DataPlace a.p x × (is_place a.p v 0 x ≡ true)) (sym place_at.ensures) h }
+    let h = q.addresses_len.2 (λ e. c.if-place.false (place_at.ensures ∙ e)) in
+    record { p_value = q.p_value; whole = q.whole; data_place = subst (λ (x : ℕ). DataPlace a.p x × (is_place a.p v 0 x ≡ true)) (sym place_at.ensures) h }
 
 pub returns : goal.returns
 returns c =

@@ -17,7 +17,12 @@ use Rattle.call_land_table.proofs.held_cand.Goals as goal
 pub held_record-r-requires : goal.held_record-r-requires
 held_record-r-requires c =
     let a = c.args in
-    let q = c.requires in record { p_value = q.p_value; whole = (q.whole.0, q.whole.1, zero_here a.p (ranged a.p q.p_value)); data_place = (q.data_place.0, is_in_empty (place_drive a.p a.place.0), q.data_place.1) }
+    let q = c.requires in record {
+      p_value = q.p_value;
+      whole = (q.whole.0, q.whole.1, zero_here a.p (ranged a.p q.p_value));
+      data_place =
+          (q.data_place.0, is_in_empty (place_drive a.p a.place.0), q.data_place.1);
+    }
 
 pub serial_in-serial-requires : goal.serial_in-serial-requires
 serial_in-serial-requires c =

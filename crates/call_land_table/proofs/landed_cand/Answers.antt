@@ -46,7 +46,16 @@ place_of-place-requires c =
     let data-drive = c.data_drive-drive in
     let args = c.args in
     let p = args.p in
-    let z = low_here p args.segment data-drive.result q.zones_low.0 data-drive.ensures.1 in record { p_value = q.p_value; drive_lt_n = (data-drive.ensures.1, omega (arith, c.zone_on-zone.ensures, z), data_below p (ranged p q.p_value) (1 + c.offset_in-offset.result) (omega (arith, low (goal.at.place_of-place-requires c).After-zone_on-zone))) }
+    let z = low_here p args.segment data-drive.result q.zones_low.0 data-drive.ensures.1 in
+    record {
+      p_value = q.p_value;
+      drive_lt_n = (
+        data-drive.ensures.1,
+        omega (arith, c.zone_on-zone.ensures, z),
+        data_below p (ranged p q.p_value) (1 + c.offset_in-offset.result)
+            (omega (arith, low (goal.at.place_of-place-requires c).After-zone_on-zone)),
+      );
+    }
 
 pub returns : goal.returns
 unfolding landed_cand entry_in_of

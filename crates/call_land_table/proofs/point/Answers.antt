@@ -17,7 +17,14 @@ serial_at-serial-requires c =
 pub winners-places-requires : goal.winners-places-requires
 winners-places-requires c =
     let q = c.requires in
-    let args = c.args in record { p_value = q.p_value; whole = q.whole; addresses_len = q.addresses_len; zones_low = q.zones_low; serial_value = c.serial_at-serial.ensures args.offline.now args.pointers.now q.whole.0.pointers_long }
+    let args = c.args in record {
+      p_value = q.p_value;
+      whole = q.whole;
+      addresses_len = q.addresses_len;
+      zones_low = q.zones_low;
+      serial_value =
+          c.serial_at-serial.ensures args.offline.now args.pointers.now q.whole.0.pointers_long;
+    }
 
 pub returns : goal.returns
 returns c =

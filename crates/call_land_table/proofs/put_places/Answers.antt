@@ -69,8 +69,11 @@ loop-k-preserved c =
     let e : c.entry-e.result.address.0 ≡ (entry_in_of st i k).address = ap (λ (r : Rec). r.address) c.entry-e.ensures in
     let t : List ℕ = up_from (k + 1) (n - (k + 1)) in
     let f : put_winners p st i qs t c.if-a-p.addresses ≡ put_winners p st i qs (up_from k (n - k)) l.addresses =
-    elim c.if-a-p.branch [ then-a-p w ↦ ap (put_winners p st i qs t) (w.addresses-is ∙ w.set_place.ensures ∙ ap (λ (x : ℕ). set_place l.addresses x (get_or qs k 0)) e)
-    ∙ put_one p st i qs k n l.addresses (omega (arith, loop-test.true)) (omega (arith, w.if-a-p.true, e)) | else-a-p w ↦ ap (put_winners p st i qs t) w.addresses-is ∙ put_none p st i qs k n l.addresses (omega (arith, loop-test.true)) (omega (arith, w.if-a-p.false, e)) ] in
+    elim c.if-a-p.branch [
+      | then-a-p w ↦ ap (put_winners p st i qs t) (w.addresses-is ∙ w.set_place.ensures ∙ ap (λ (x : ℕ). set_place l.addresses x (get_or qs k 0)) e)
+          ∙ put_one p st i qs k n l.addresses (omega (arith, loop-test.true)) (omega (arith, w.if-a-p.true, e))
+      | else-a-p w ↦ ap (put_winners p st i qs t) w.addresses-is ∙ put_none p st i qs k n l.addresses (omega (arith, loop-test.true)) (omega (arith, w.if-a-p.false, e))
+    ] in
     let g : length c.if-a-p.addresses ≡ length l.addresses = elim c.if-a-p.branch [ then-a-p w ↦ ap length w.addresses-is ∙ w.set_place.auto.table | else-a-p w ↦ ap length w.addresses-is ] in
     (l.invariant.0, omega (arith, loop-test.true), g ∙ l.invariant.2, f ∙ l.invariant.3)
 

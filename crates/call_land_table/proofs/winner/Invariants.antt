@@ -18,7 +18,8 @@ abbrev pub invariant-loop-k : goal.invariant-loop-k
 invariant-loop-k l =
     (l.n ≡ filled_in_of (alone l.row) 0) × (l.k ≤ l.n)
     × (best (ranked_best l.b) (cands_of l.address.0 (map (landed_cand l.p (view_of l.p l.offline l.image l.pointers) l.segment (alone l.row) 0) (up_from l.k (l.n - l.k))))
-    ≡ best (held l.p (view_of l.p l.offline l.image l.pointers) l.addresses l.address.0) (cands_of l.address.0 (landed_cands l.p (view_of l.p l.offline l.image l.pointers) l.segment (alone l.row) 0)))
+    ≡ best (held l.p (view_of l.p l.offline l.image l.pointers) l.addresses l.address.0)
+    (cands_of l.address.0 (landed_cands l.p (view_of l.p l.offline l.image l.pointers) l.segment (alone l.row) 0)))
 
 abbrev pub decreases-loop-k : goal.decreases-loop-k
 decreases-loop-k l = l.n - l.k

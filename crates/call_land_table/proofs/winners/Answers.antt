@@ -42,7 +42,15 @@ winner-q-requires c =
     let k = loop.k in
     let e : entry.result.address.0 ≡ (entry_in_of (alone a.row) 0 k).address = ap (λ (r : Rec). r.address) entry.ensures in
     let s = q.addresses_len.1 k (omega (arith, loop-test.true, filled_in.ensures)) (omega (arith, c.if-address-p.true, e)) in
-    let v : View = view_of a.p a.offline.now a.image.now a.pointers.now in record { p_value = q.p_value; whole = q.whole; addresses_len = (q.addresses_len.0, omega (arith, c.if-address-p.true), subst (λ (x : ℕ). Sane a.p v (place_at_of a.addresses.now x)) (sym e) s); zones_low = q.zones_low; serial_value = q.serial_value }
+    let v : View = view_of a.p a.offline.now a.image.now a.pointers.now in
+    record {
+      p_value = q.p_value;
+      whole = q.whole;
+      addresses_len =
+          (q.addresses_len.0, omega (arith, c.if-address-p.true), subst (λ (x : ℕ). Sane a.p v (place_at_of a.addresses.now x)) (sym e) s);
+      zones_low = q.zones_low;
+      serial_value = q.serial_value;
+    }
 
 pub offset_bounds-out-k : goal.offset_bounds-out-k
 offset_bounds-out-k c =
@@ -72,10 +80,16 @@ loop-k-preserved c =
     let f : ℕ → ℕ = winner_of p v a.addresses.now (landed_cands p v a.segment st i) in
     let m : k < 8 = low (goal.at.loop-k-preserved c).In-loop-k in
     let e : entry.result.address.0 ≡ (entry_in_of st i k).address = ap (λ (r : Rec). r.address) entry.ensures in
-    let g : length c.if-address-p.out ≡ 8 = elim c.if-address-p.branch [ then-address-p w ↦ ap length w.out-is ∙ length-set l.out k w.winner-q.result.0 ∙ l.invariant.2 | else-address-p w ↦ ap length w.out-is ∙ l.invariant.2 ] in
+    let g : length c.if-address-p.out ≡ 8 = elim c.if-address-p.branch
+    [ then-address-p w ↦ ap length w.out-is ∙ length-set l.out k w.winner-q.result.0 ∙ l.invariant.2 | else-address-p w ↦ ap length w.out-is ∙ l.invariant.2 ] in
     let T : List ℕ → Type 0 = λ x. (h : ℕ) → h < k + 1 → (entry_in_of st i h).address < p.L → get_or x h 0 ≡ f (entry_in_of st i h).address in
     let b : T c.if-address-p.out =
-    elim c.if-address-p.branch [ then-address-p w ↦ subst T (sym w.out-is) (set_winner p st i f l.out k l.invariant.3 w.winner-q.result.0 (omega (arith, m, l.invariant.2)) (w.winner-q.ensures ∙ ap f e)) | else-address-p w ↦ subst T (sym w.out-is) (keep_winner p st i f l.out k l.invariant.3 (omega (arith, w.if-address-p.false, e))) ] in
+    elim c.if-address-p.branch [
+      | then-address-p w ↦ subst T (sym w.out-is)
+          (set_winner p st i f l.out k l.invariant.3 w.winner-q.result.0 (omega (arith, m, l.invariant.2)) (w.winner-q.ensures ∙ ap f e))
+      | else-address-p w ↦ subst T
+          (sym w.out-is) (keep_winner p st i f l.out k l.invariant.3 (omega (arith, w.if-address-p.false, e)))
+    ] in
     (l.invariant.0, omega (arith, loop-test.true), g, b)
 
 pub returns : goal.returns

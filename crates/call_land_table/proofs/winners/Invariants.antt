@@ -18,7 +18,8 @@ abbrev pub invariant-loop-k : goal.invariant-loop-k
 invariant-loop-k l =
     (l.n ≡ filled_in_of (alone l.row) 0) × (l.k ≤ l.n) × (length l.out ≡ 8)
     × ((h : ℕ) → h < l.k → (entry_in_of (alone l.row) 0 h).address < l.p.L
-    → get_or l.out h 0 ≡ winner_of l.p (view_of l.p l.offline l.image l.pointers) l.addresses (landed_cands l.p (view_of l.p l.offline l.image l.pointers) l.segment (alone l.row) 0) (entry_in_of (alone l.row) 0 h).address)
+    → get_or l.out h 0 ≡ winner_of l.p (view_of l.p l.offline l.image l.pointers) l.addresses
+    (landed_cands l.p (view_of l.p l.offline l.image l.pointers) l.segment (alone l.row) 0) (entry_in_of (alone l.row) 0 h).address)
 
 abbrev pub decreases-loop-k : goal.decreases-loop-k
 decreases-loop-k l = l.n - l.k

@@ -24,11 +24,14 @@ pub block_byte-requires : goal.block_byte-requires
 block_byte-requires c =
     let a = c.args in
     let q = c.requires in
-    let n : is_in a.gone a.drive ≡ false = sym c.has_drive.ensures ∙ c.if-has_drive.false in record { p_value = q.p_value; drive_lt_n = (
+    let n : is_in a.gone a.drive ≡ false = sym c.has_drive.ensures ∙ c.if-has_drive.false in record {
+      p_value = q.p_value;
+      drive_lt_n = (
         q.drive_lt_n.0,
         rw c.zone_on-zone.ensures (low_zone a.p a.gone a.segment a.drive q.drive_lt_n.1 q.drive_lt_n.0 n),
         data_below a.p (ranged a.p q.p_value) _ (omega (arith, q.drive_lt_n.2)),
-      ) }
+      );
+    }
 
 pub returns : goal.returns
 returns c =

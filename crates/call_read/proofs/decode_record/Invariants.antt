@@ -20,8 +20,10 @@ invariant-loop-d l =
     (l.d ≤ l.p.N)
     × (length l.addresses ≡ 8)
     × (length l.stamps ≡ 8)
-    × ((e : ℕ) → e < l.d → is_in l.gone e ≡ false → (off : List ℕ) → get_or l.addresses e 0 ≡ (record_at l.p (view_of l.p off l.image l.pointers) l.gone e l.segment (get_or l.at e 0)).address)
-    × ((e : ℕ) → e < l.d → is_in l.gone e ≡ false → (off : List ℕ) → get_or l.stamps e 0 ≡ (record_at l.p (view_of l.p off l.image l.pointers) l.gone e l.segment (get_or l.at e 0)).stamp)
+    × ((e : ℕ) → e < l.d → is_in l.gone e ≡ false → (off : List ℕ)
+    → get_or l.addresses e 0 ≡ (record_at l.p (view_of l.p off l.image l.pointers) l.gone e l.segment (get_or l.at e 0)).address)
+    × ((e : ℕ) → e < l.d → is_in l.gone e ≡ false → (off : List ℕ)
+    → get_or l.stamps e 0 ≡ (record_at l.p (view_of l.p off l.image l.pointers) l.gone e l.segment (get_or l.at e 0)).stamp)
 
 abbrev pub decreases-loop-d : goal.decreases-loop-d
 decreases-loop-d l = l.p.N - l.d

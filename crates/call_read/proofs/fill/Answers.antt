@@ -49,7 +49,8 @@ told : (c : After-seek) (x : Sought) → c.seek-sought.result ≡ x
     → SoughtBy (start c).args.p (start c).args.offline.now (disk (start c)) (memory (start c)) (start c).args.address.0 (length (start c).args.block.now) x (starts c)
 told c x e =
     let s = start c in
-    subst (λ (y : Sought). SoughtBy s.args.p s.args.offline.now (disk s) (memory s) s.args.address.0 (length s.args.block.now) y (starts c)) e (c.seek-sought.ensures.result_value, c.seek-sought.ensures.gives)
+    subst (λ (y : Sought). SoughtBy s.args.p s.args.offline.now (disk s) (memory s) s.args.address.0 (length s.args.block.now) y (starts c)) e
+    (c.seek-sought.ensures.result_value, c.seek-sought.ensures.gives)
 
 -- no check refuses it
 ready : (c : After-seek) (x : Sought) → c.seek-sought.result ≡ x → refused_by x ≡ none
@@ -70,24 +71,38 @@ left c x b e f =
 pub fill_here-requires : goal.fill_here-requires
 fill_here-requires c =
     let at_seek = c.before.before.before.before in
-    let start' = c.before.before.before.before.before.before.before.before.before.before.before.before.before.before in
+    let start' = at_seek.before.before.before.before.before.before.before.before.before.before in
     let p = c.args.p in
     let n = length c.args.block.now in
     let t = told at_seek _ c.in-Here.is in
     let r = ready at_seek _ c.in-Here.is refl in
-    let f = found_at p c.args.offline.now (disk start') (memory start') c.args.address.0 n in record { p_value = r.ranged; image_len = (r.whole.image_long, r.block_long, subst (placed_at p) t.1.0 (found-placed p (seen p c.args.offline.now (disk start')) (memory start').state.missing f r.faultless)) }
+    let f = found_at p c.args.offline.now (disk start') (memory start') c.args.address.0 n in
+    record {
+      p_value = r.ranged;
+      image_len = (
+        r.whole.image_long,
+        r.block_long,
+        subst (placed_at p) t.1.0
+            (found-placed p (seen p c.args.offline.now (disk start')) (memory start').state.missing f r.faultless),
+      );
+    }
 
 pub fill_lost-requires : goal.fill_lost-requires
 fill_lost-requires c =
     let at_seek = c.before.before.before.before.before.before in
-    let start' = c.before.before.before.before.before.before.before.before.before.before.before.before.before.before.before.before in
+    let start' = at_seek.before.before.before.before.before.before.before.before.before.before in
     let p = c.args.p in
     let off = c.args.offline.now in
     let t = told at_seek _ c.in-Away.is in
     let r = ready at_seek _ c.in-Away.is refl in
     let f = found_at p off (disk start') (memory start') c.args.address.0 (length c.args.block.now) in
     let placed = subst (placed_at p) t.1.0 (found-placed p (seen p off (disk start')) (memory start').state.missing f r.faultless) in
-    let lost = t.1.2 in record { p_value = r.ranged; image_len = (r.whole.image_long, r.block_long, placed); bytes_len = (lost.long, λ k h n. lost.within k h (subst (λ (x : ℕ). is_in x k ≡ false) c.missing-gone.ensures n)) }
+    let lost = t.1.2 in record {
+      p_value = r.ranged;
+      image_len = (r.whole.image_long, r.block_long, placed);
+      bytes_len =
+          (lost.long, λ k h n. lost.within k h (subst (λ (x : ℕ). is_in x k ≡ false) c.missing-gone.ensures n));
+    }
 
 pub returns-in-Bad : goal.returns-in-Bad
 returns-in-Bad c =

@@ -12,7 +12,8 @@ use Rattle.call_read.proofs.fill_lost.Goals as goal
 pub decode_block-requires : goal.decode_block-requires
 decode_block-requires c =
     let q = c.requires in
-    let drive = subst (λ (x : ℕ). x < c.args.p.N) (sym c.place_drive-drive.ensures.0) q.image_len.2.drive_low in record { p_value = q.p_value; at_len = (q.bytes_len.0, q.image_len.1, drive); parts_within = λ k h n. omega (arith, q.bytes_len.1 k h n, q.image_len.0) }
+    let drive = subst (λ (x : ℕ). x < c.args.p.N) (sym c.place_drive-drive.ensures.0) q.image_len.2.drive_low in
+    record { p_value = q.p_value; at_len = (q.bytes_len.0, q.image_len.1, drive); parts_within = λ k h n. omega (arith, q.bytes_len.1 k h n, q.image_len.0) }
 
 pub returns : goal.returns
 unfolding lost_block

@@ -64,8 +64,8 @@ returns-in-Never c =
 
 pub returns-in-Here : goal.returns-in-Here
 returns-in-Here c =
-    let start' = c.before.before.before.before.before.before.before.before.before.before.before.before.before in
     let at_seek = c.before.before.before.before in
+    let start' = at_seek.before.before.before.before.before.before.before.before.before in
     ap (λ (n : ℕ). mk_after (Part n c.in-Here.t) (disk start') (memory start') []) c.place_byte.ensures.0 ∙ left at_seek _ c.in-Here.is
 
 pub returns-in-Away : goal.returns-in-Away

@@ -35,9 +35,9 @@ pub overflow_add-e : goal.overflow_add-e
 overflow_add-e c =
     let a = c.args in
     let h : c.in-Part.at + a.p.B ≤ length a.image.now =
-        part_within a.p a.offline.now (mk_disk a.image.now a.pointers.now)
-        (mk_memory (state_of a.state.now) a.addresses.now a.compact.now a.inflight.now) a.address.0 c.in-Part.at c.in-Part.field-1
-        (sym (ap (λ (x : After Disk). x.answer) c.find-answer.ensures) ∙ c.in-Part.is) in
+    part_within a.p a.offline.now (mk_disk a.image.now a.pointers.now)
+    (mk_memory (state_of a.state.now) a.addresses.now a.compact.now a.inflight.now) a.address.0 c.in-Part.at c.in-Part.field-1
+    (sym (ap (λ (x : After Disk). x.answer) c.find-answer.ensures) ∙ c.in-Part.is) in
     omega (arith, h)
 
 pub slice_bounds-result-end : goal.slice_bounds-result-end

@@ -19,7 +19,12 @@ pub record_in-requires : goal.record_in-requires
 record_in-requires c =
     let a = c.args in
     let q = c.requires in
-    let n : is_in a.gone a.drive ≡ false = sym c.has_drive.ensures ∙ c.if-has_drive.false in record { p_value = q.p_value; image_len = (q.image_len.0, q.image_len.1, rw c.zone_on-zone.ensures (low_zone a.p a.gone a.segment a.drive q.image_len.2 q.image_len.1 n), q.image_len.3) }
+    let n : is_in a.gone a.drive ≡ false = sym c.has_drive.ensures
+    ∙ c.if-has_drive.false in record {
+      p_value = q.p_value;
+      image_len =
+          (q.image_len.0, q.image_len.1, rw c.zone_on-zone.ensures (low_zone a.p a.gone a.segment a.drive q.image_len.2 q.image_len.1 n), q.image_len.3);
+    }
 
 pub returns : goal.returns
 returns c =

@@ -61,7 +61,11 @@ from s i = read_from s.args.p s.args.offline.now (diskIn s) (memoryIn s) s.args.
 pub returns-then-not-in_range : goal.returns-then-not-in_range
 returns-then-not-in_range c =
     let start = c.before.before.before.before.before.before.before.before.before.before.before in
-    let range = c.in_range in record { result_value = read_range_fails c.args.p c.args.offline.now (diskIn start) (memoryIn start) c.args.address.0 c.args.len (sym range.ensures ∙ not-true range.result c.if-not-in_range.true-raw); gives = tt }
+    let range = c.in_range in record {
+      result_value = read_range_fails c.args.p c.args.offline.now (diskIn start) (memoryIn start) c.args.address.0 c.args.len
+          (sym range.ensures ∙ not-true range.result c.if-not-in_range.true-raw);
+      gives = tt;
+    }
 
 module _ (c : Else1) where
   abbrev started : Start
@@ -80,10 +84,13 @@ lent_ok-requires c = in_range_holds c.before
 
 pub returns-then-not-lent_ok : goal.returns-then-not-lent_ok
 returns-then-not-lent_ok c =
-    let start = c.before.before.before.before.before.before.before.before.before.before.before.before.before in
     let at_else = c.before.before.before in
-    let lent = c.lent_ok in record { result_value = read_lengths_fail c.args.p c.args.offline.now (diskIn start) (memoryIn start) c.args.address.0 c.args.len
-          (sym (lent.ensures (memoryIn start).state) ∙ not-true lent.result c.if-not-lent_ok.true-raw) ∙ ranging at_else; gives = tt }
+    let start = at_else.before.before.before.before.before.before.before.before.before.before in
+    let lent = c.lent_ok in record {
+      result_value = read_lengths_fail c.args.p c.args.offline.now (diskIn start) (memoryIn start) c.args.address.0 c.args.len
+          (sym (lent.ensures (memoryIn start).state) ∙ not-true lent.result c.if-not-lent_ok.true-raw) ∙ ranging at_else;
+      gives = tt;
+    }
 
 module _ (c : Else2) where
   abbrev looked-at : Start
@@ -95,10 +102,13 @@ module _ (c : Else2) where
 
 pub returns-then-len-p : goal.returns-then-len-p
 returns-then-len-p c =
-    let start = c.before.before.before.before.before.before.before.before.before.before.before.before.before.before.before in
     let at_else = c.before.before.before in
-    let at_else' = c.before.before.before.before.before in record { result_value = read_block_fails c.args.p c.args.offline.now (diskIn start) (memoryIn start) c.args.address.0 c.args.len
-          (lent at_else) c.if-len-p.true ∙ ranging at_else'; gives = tt }
+    let start = at_else.before.before.before.before.before.before.before.before.before.before.before.before in
+    let at_else' = c.before.before.before.before.before in record {
+      result_value = read_block_fails c.args.p c.args.offline.now (diskIn start) (memoryIn start) c.args.address.0 c.args.len
+          (lent at_else) c.if-len-p.true ∙ ranging at_else';
+      gives = tt;
+    }
 
 module _ (c : Else3) where
   abbrev lengths : Start
@@ -111,15 +121,18 @@ module _ (c : Else3) where
 
 pub list_rule-rule-requires : goal.list_rule-rule-requires
 list_rule-rule-requires c =
-    let at_else = c.before.before.before.before.before in
     let at_else' = c.before.before.before in
+    let at_else = at_else'.before.before in
     let s = lengths c.before in record { p_value = in_range_holds at_else; offline_len = (lent_long_lem s.args.p s.args.offline.now (diskIn s) (memoryIn s) (lent at_else')).5 }
 
 pub returns-then-rule-ne0 : goal.returns-then-rule-ne0
 returns-then-rule-ne0 c =
     let at_else = c.before.before.before in
-    let s = lengths at_else in record { result_value = read_list_fails s.args.p s.args.offline.now (diskIn s) (memoryIn s) s.args.address.0 s.args.len
-          c.list_rule-rule.result c.list_rule-rule.ensures c.if-rule-ne0.true ∙ longs at_else; gives = tt }
+    let s = lengths at_else in record {
+      result_value = read_list_fails s.args.p s.args.offline.now (diskIn s) (memoryIn s) s.args.address.0 s.args.len
+          c.list_rule-rule.result c.list_rule-rule.ensures c.if-rule-ne0.true ∙ longs at_else;
+      gives = tt;
+    }
 
 module _ (c : Else4) where
   abbrev listed : Start
@@ -133,7 +146,11 @@ module _ (c : Else4) where
 pub returns-then-p-address : goal.returns-then-p-address
 returns-then-p-address c =
     let at_else = c.before.before.before in
-    let s = listed at_else in record { result_value = read_address_fails s.args.p s.args.offline.now (diskIn s) (memoryIn s) s.args.address.0 s.args.len (omega (arith, c.if-p-address.true)) ∙ enough at_else; gives = tt }
+    let s = listed at_else in record {
+      result_value = read_address_fails s.args.p s.args.offline.now (diskIn s) (memoryIn s) s.args.address.0 s.args.len
+          (omega (arith, c.if-p-address.true)) ∙ enough at_else;
+      gives = tt;
+    }
 
 module _ (c : Else5) where
   abbrev addressed : Start
@@ -141,7 +158,8 @@ module _ (c : Else5) where
 
   lows : from addressed 5 ≡ from addressed 0
   lows =
-      read_address_passes addressed.args.p addressed.args.offline.now (diskIn addressed) (memoryIn addressed) addressed.args.address.0 addressed.args.len (omega (arith, c.if-p-address.false)) ∙ enough c.before.before
+      read_address_passes addressed.args.p addressed.args.offline.now (diskIn addressed) (memoryIn addressed) addressed.args.address.0 addressed.args.len
+      (omega (arith, c.if-p-address.false)) ∙ enough c.before.before
 
 pub state_ok-requires : goal.state_ok-requires
 state_ok-requires c =
@@ -151,8 +169,11 @@ pub returns-then-not-state_ok : goal.returns-then-not-state_ok
 returns-then-not-state_ok c =
     let at_else = c.before.before.before in
     let s = addressed at_else in
-    let state = c.state_ok in record { result_value = read_state_fails s.args.p s.args.offline.now (diskIn s) (memoryIn s) s.args.address.0 s.args.len
-          (sym state.ensures ∙ not-true state.result c.if-not-state_ok.true-raw) ∙ lows at_else; gives = tt }
+    let state = c.state_ok in record {
+      result_value = read_state_fails s.args.p s.args.offline.now (diskIn s) (memoryIn s) s.args.address.0 s.args.len
+          (sym state.ensures ∙ not-true state.result c.if-not-state_ok.true-raw) ∙ lows at_else;
+      gives = tt;
+    }
 
 pub missing-gone-requires : goal.missing-gone-requires
 missing-gone-requires c =
@@ -181,7 +202,11 @@ module _ (c : Else6) where
 
 pub lies-f-requires : goal.lies-f-requires
 lies-f-requires c =
-    let s = sound c.before.before in record { p_value = ok c.before.before; addresses_len = ((lent_long_lem s.args.p s.args.offline.now (diskIn s) (memoryIn s) (long c.before.before)).2, omega (arith, c.if-p-address.false)) }
+    let s = sound c.before.before in record {
+      p_value = ok c.before.before;
+      addresses_len =
+          ((lent_long_lem s.args.p s.args.offline.now (diskIn s) (memoryIn s) (long c.before.before)).2, omega (arith, c.if-p-address.false));
+    }
 
 pub seek_found-requires : goal.seek_found-requires
 seek_found-requires c =
@@ -190,12 +215,18 @@ seek_found-requires c =
     let p = s.args.p in
     let l = lent_long_lem p s.args.offline.now (diskIn s) (memoryIn s) (long at_else) in
     let gone = c.missing-gone in
-    let looked = c.lies-f in record { p_value = ok at_else; whole = (record { image_long = l.0; pointers_long = l.1 }, l.5, subst (Here p) (sym gone.ensures) (present-one at_else)); compact_len = (l.3, s.requires.1, subst (Sorted p gone.result) (sym looked.ensures) (lies_sorted p gone.result s.args.addresses.now s.args.address.0)) }
+    let looked = c.lies-f in record {
+      p_value = ok at_else;
+      whole =
+          (record { image_long = l.0; pointers_long = l.1 }, l.5, subst (Here p) (sym gone.ensures) (present-one at_else));
+      compact_len =
+          (l.3, s.requires.1, subst (Sorted p gone.result) (sym looked.ensures) (lies_sorted p gone.result s.args.addresses.now s.args.address.0));
+    }
 
 pub returns : goal.returns
 returns c =
     let at_else = c.before.before.before.before.before.before.before in
-    let at_else' = c.before.before.before.before.before.before.before.before.before in
+    let at_else' = at_else.before.before in
     let s = sound at_else in
     let p = s.args.p in
     let m = memoryIn s in
@@ -206,4 +237,5 @@ returns c =
     let g : gone.result ≡ m.state.missing = gone.ensures in
     let f : found_of looked.result ≡ found_at s.args.p s.args.offline.now (diskIn s) (memoryIn s) s.args.address.0 s.args.len
     = looked.ensures ∙ ap (λ (x : ℕ). lies p x m.addresses s.args.address.0) g in
-    let q = transport (λ j. SeeksAll p s.args.image.now v (g j) m.compact (f j) found.result found.new.bytes) found.ensures in record { result_value = q.0 ∙ read_state_passes s.args.p s.args.offline.now (diskIn s) (memoryIn s) s.args.address.0 s.args.len (state_fine at_else) ∙ lows at_else'; gives = q.1 }
+    let q = transport (λ j. SeeksAll p s.args.image.now v (g j) m.compact (f j) found.result found.new.bytes) found.ensures in
+    record { result_value = q.0 ∙ read_state_passes s.args.p s.args.offline.now (diskIn s) (memoryIn s) s.args.address.0 s.args.len (state_fine at_else) ∙ lows at_else'; gives = q.1 }

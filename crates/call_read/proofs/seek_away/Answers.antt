@@ -54,7 +54,14 @@ seek_lost-requires c =
     let v = view_of a.p a.offline.now a.image.now a.pointers.now in
     let q = a.q.0 in
     let held = c.place_held-held in
-    let one = subst (λ (x : Held). HeldAs a.p v a.gone (place_drive a.p q) (place_zone a.p q) x) c.in-One.is held.ensures.held_as in record { p_value = c.requires.p_value; whole = c.requires.whole; compact_len = (c.requires.compact_len.0, c.requires.compact_len.1, place_free a.p v a.gone q (fine (goal.at.seek_lost-requires c).Else-zone-p)); held_one = one }
+    let one = subst (λ (x : Held). HeldAs a.p v a.gone (place_drive a.p q) (place_zone a.p q) x) c.in-One.is held.ensures.held_as in
+    record {
+      p_value = c.requires.p_value;
+      whole = c.requires.whole;
+      compact_len =
+          (c.requires.compact_len.0, c.requires.compact_len.1, place_free a.p v a.gone q (fine (goal.at.seek_lost-requires c).Else-zone-p));
+      held_one = one;
+    }
 
 pub returns-in-Nothing : goal.returns-in-Nothing
 unfolding found_faults is_one_of

@@ -25,7 +25,8 @@ held_record-r-requires c =
     let a = c.args in
     let v = view_of a.p a.offline.now a.image.now a.pointers.now in
     let z = c.place_fault-zone in
-    let f = z.ensures ∙ zone_absent z.result a.p.Z c.if-zone-p.false in record { p_value = c.requires.p_value; whole = c.requires.whole; data_place = (place_free a.p v a.gone a.q.0 f, c.requires.q_value, fault_free_place a.p v a.gone a.q.0 f) }
+    let f = z.ensures ∙ zone_absent z.result a.p.Z c.if-zone-p.false in
+    record { p_value = c.requires.p_value; whole = c.requires.whole; data_place = (place_free a.p v a.gone a.q.0 f, c.requires.q_value, fault_free_place a.p v a.gone a.q.0 f) }
 
 pub returns : goal.returns
 returns c =

@@ -32,7 +32,8 @@ pub seg_for-segment-requires : goal.seg_for-segment-requires
 seg_for-segment-requires c =
     let a = c.args in
     let q = c.requires in
-    let v = view_of a.p a.offline.now a.image.now a.pointers.now in record { p_value = q.p_value; whole = (q.whole.0, q.whole.1); serial_bound = remains_low a.p v a.gone q.whole.2 a.serial.0 q.held_one.it_remains }
+    let v = view_of a.p a.offline.now a.image.now a.pointers.now in
+    record { p_value = q.p_value; whole = (q.whole.0, q.whole.1); serial_bound = remains_low a.p v a.gone q.whole.2 a.serial.0 q.held_one.it_remains }
 
 -- the segment of the place, and its zones
 segment-is :
@@ -54,7 +55,12 @@ segment_low c =
 
 pub shown_offsets-requires : goal.shown_offsets-requires
 shown_offsets-requires c =
-    let q = c.requires in record { p_value = q.p_value; pointers_len = (q.whole.0.pointers_long, q.compact_len.0, refl); zones_low = (segment_low (goal.at.shown_offsets-requires c).After-seg_for-segment, stripe_low (goal.at.shown_offsets-requires c).After-place_block-s) }
+    let q = c.requires in record {
+      p_value = q.p_value;
+      pointers_len = (q.whole.0.pointers_long, q.compact_len.0, refl);
+      zones_low =
+          (segment_low (goal.at.shown_offsets-requires c).After-seg_for-segment, stripe_low (goal.at.shown_offsets-requires c).After-place_block-s);
+    }
 
 pub returns-then-any_hidden : goal.returns-then-any_hidden
 returns-then-any_hidden c =
@@ -81,7 +87,11 @@ offsets_low c =
 
 pub block_bytes-requires : goal.block_bytes-requires
 block_bytes-requires c =
-    let q = c.requires in record { p_value = q.p_value; zones_low = (segment_low (goal.at.block_bytes-requires c).After-seg_for-segment, offsets_low (goal.at.block_bytes-requires c).Else-any_hidden, q.compact_len.1) }
+    let q = c.requires in record {
+      p_value = q.p_value;
+      zones_low =
+          (segment_low (goal.at.block_bytes-requires c).After-seg_for-segment, offsets_low (goal.at.block_bytes-requires c).Else-any_hidden, q.compact_len.1);
+    }
 
 pub place_drive-drive-requires : goal.place_drive-drive-requires
 place_drive-drive-requires c = c.requires.p_value
@@ -89,7 +99,18 @@ place_drive-drive-requires c = c.requires.p_value
 pub decode_record-r-requires : goal.decode_record-r-requires
 decode_record-r-requires c =
     let q = c.requires in
-    let drive = subst (λ (x : ℕ). x < c.args.p.N) (sym c.place_drive-drive.ensures.0) q.compact_len.2.drive_low in record { p_value = q.p_value; whole = q.whole.0; drive_lt_n = (drive, segment_low (goal.at.decode_record-r-requires c).After-seg_for-segment, stripe_low (goal.at.decode_record-r-requires c).After-place_block-s, offsets_low (goal.at.decode_record-r-requires c).Else-any_hidden) }
+    let drive = subst (λ (x : ℕ). x < c.args.p.N) (sym c.place_drive-drive.ensures.0) q.compact_len.2.drive_low in
+    record {
+      p_value = q.p_value;
+      whole = q.whole.0;
+      drive_lt_n = (
+        drive,
+        segment_low (goal.at.decode_record-r-requires c).After-seg_for-segment,
+        stripe_low (goal.at.decode_record-r-requires c).After-place_block-s,
+        offsets_low
+            (goal.at.decode_record-r-requires c).Else-any_hidden,
+      );
+    }
 
 pub returns : goal.returns
 returns c =

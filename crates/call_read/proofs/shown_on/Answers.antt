@@ -30,7 +30,13 @@ pub shown_at-requires : goal.shown_at-requires
 shown_at-requires c =
     let a = c.args in
     let q = c.requires in
-    let n : is_in a.gone a.drive ≡ false = sym c.has_drive.ensures ∙ c.if-has_drive.false in record { p_value = q.p_value; pointers_len = q.pointers_len; drive_lt_n = (q.drive_lt_n.0, rw c.zone_on-zone.ensures (low_zone a.p a.gone a.segment a.drive q.drive_lt_n.1 q.drive_lt_n.0 n), q.drive_lt_n.2) }
+    let n : is_in a.gone a.drive ≡ false = sym c.has_drive.ensures
+    ∙ c.if-has_drive.false in record {
+      p_value = q.p_value;
+      pointers_len = q.pointers_len;
+      drive_lt_n =
+          (q.drive_lt_n.0, rw c.zone_on-zone.ensures (low_zone a.p a.gone a.segment a.drive q.drive_lt_n.1 q.drive_lt_n.0 n), q.drive_lt_n.2);
+    }
 
 pub returns : goal.returns
 returns c =

@@ -67,7 +67,11 @@ module _ (c : Else2) where
 
 pub list_rule-rule-requires : goal.list_rule-rule-requires
 list_rule-rule-requires c =
-    let s = begun c.before in record { p_value = (numbers_good s.args.p s.args.state.missing s.args.drive (numbered c.before)).0; offline_len = (lengths_of s.args.p s.args.offline.now (diskIn s) (memoryIn s) (lent c.before)).offline_ok }
+    let s = begun c.before in record {
+      p_value = (numbers_good s.args.p s.args.state.missing s.args.drive (numbered c.before)).0;
+      offline_len =
+          (lengths_of s.args.p s.args.offline.now (diskIn s) (memoryIn s) (lent c.before)).offline_ok;
+    }
 
 pub returns-then-rule-ne0 : goal.returns-then-rule-ne0
 returns-then-rule-ne0 c =
@@ -80,7 +84,8 @@ pub pointer_fault-z-requires : goal.pointer_fault-z-requires
 pointer_fault-z-requires c =
     let at_else = c.before.before.before.before in
     let s = begun at_else in
-    let w = lengths_of s.args.p s.args.offline.now (diskIn s) (memoryIn s) (lent at_else) in record { p_value = (numbers_good s.args.p s.args.state.missing s.args.drive (numbered at_else)).0; pointers_len = (w.pointers_ok, w.offline_ok) }
+    let w = lengths_of s.args.p s.args.offline.now (diskIn s) (memoryIn s) (lent at_else) in
+    record { p_value = (numbers_good s.args.p s.args.state.missing s.args.drive (numbered at_else)).0; pointers_len = (w.pointers_ok, w.offline_ok) }
 
 -- the zone that is found is the first of those above
 found :
@@ -97,8 +102,8 @@ found c =
 
 pub returns-then-z-p : goal.returns-then-z-p
 returns-then-z-p c =
-    let at_else = c.before.before.before.before.before.before.before in
     let at_pointer_fault = c.before.before.before in
+    let at_else = at_pointer_fault.before.before.before.before in
     let s = begun at_else in
     let list-rule = c.list_rule-rule in
     let if3 = c.if-rule-ne0 in
@@ -107,8 +112,8 @@ returns-then-z-p c =
 
 pub returns : goal.returns
 returns c =
-    let at_else = c.before.before.before.before.before.before.before in
     let at_pointer_fault = c.before.before.before in
+    let at_else = at_pointer_fault.before.before.before.before in
     let s = begun at_else in
     let list-rule = c.list_rule-rule in
     let if3 = c.if-rule-ne0 in

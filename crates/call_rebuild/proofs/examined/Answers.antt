@@ -51,30 +51,43 @@ gather-requires c =
     let start = c.before.before.before.before.before.before.before.before.before.before.before.before in
     let only-drive = c.only_drive-gone in
     let rd = ready start in
-    let z = (ranged c.args.p rd.in_range_holds).zones_high in record { p_value = rd.in_range_holds; whole = (
-          whole_of c.args.p c.args.offline.now (diskIn start) (memoryIn start) rd.lent,
-          (lengths_of c.args.p c.args.offline.now (diskIn start) (memoryIn start) rd.lent).offline_ok,
-          some-here start only-drive.result (only-drive.ensures ∙ only-named c.args.drive),
-        ); z_in_bounds = (omega (arith, z), z, z, z) }
+    let z = (ranged c.args.p rd.in_range_holds).zones_high in record {
+      p_value = rd.in_range_holds;
+      whole = (
+        whole_of c.args.p c.args.offline.now (diskIn start) (memoryIn start) rd.lent,
+        (lengths_of c.args.p c.args.offline.now (diskIn start) (memoryIn start) rd.lent).offline_ok,
+        some-here start only-drive.result (only-drive.ensures ∙ only-named c.args.drive),
+      );
+      z_in_bounds = (omega (arith, z), z, z, z);
+    }
 
 pub examine-e-requires : goal.examine-e-requires
 examine-e-requires c =
     let start = c.before.before.before.before.before.before.before.before.before.before.before.before.before.before.before.before.before.before.before.before in
     let g = c.gather.ensures in
     let only-drive = c.only_drive-gone in
-    let rd = ready start in record { p_value = rd.in_range_holds; whole = (
-          whole_of c.args.p c.args.offline.now (diskIn start) (memoryIn start) rd.lent,
-          (lengths_of c.args.p c.args.offline.now (diskIn start) (memoryIn start) rd.lent).offline_ok,
-          some-here start only-drive.result (only-drive.ensures ∙ only-named c.args.drive),
-        ); keeps = (g.keeps, g.serials, g.flags_rows) }
+    let rd = ready start in record {
+      p_value = rd.in_range_holds;
+      whole = (
+        whole_of c.args.p c.args.offline.now (diskIn start) (memoryIn start) rd.lent,
+        (lengths_of c.args.p c.args.offline.now (diskIn start) (memoryIn start) rd.lent).offline_ok,
+        some-here start only-drive.result (only-drive.ensures ∙ only-named c.args.drive),
+      );
+      keeps = (g.keeps, g.serials, g.flags_rows);
+    }
 
 -- what the examination says, of the named drive
 said : (c : After-examine)
-    → let v = seen c.before.before.before.before.before.before.before.before.before.before.before.before.before.before.before.before.before.before.before.before.args.p c.before.before.before.before.before.before.before.before.before.before.before.before.before.before.before.before.before.before.before.before.args.offline.now (diskIn c.before.before.before.before.before.before.before.before.before.before.before.before.before.before.before.before.before.before.before.before) in
-    Examined c.before.before.before.before.before.before.before.before.before.before.before.before.before.before.before.before.before.before.before.before.args.p v (named c.before.before.before.before.before.before.before.before.before.before.before.before.before.before.before.before.before.before.before.before.args.drive) (segments c.before.before.before.before.before.before.before.before.before.before.before.before.before.before.before.before.before.before.before.before.args.p v (named c.before.before.before.before.before.before.before.before.before.before.before.before.before.before.before.before.before.before.before.before.args.drive)) c.examine-e.result
+    → let v = seen c.before.before.before.before.before.before.before.before.before.before.before.before.before.before.before.before.before.before.before.before.args.p
+    c.before.before.before.before.before.before.before.before.before.before.before.before.before.before.before.before.before.before.before.before.args.offline.now
+    (diskIn c.before.before.before.before.before.before.before.before.before.before.before.before.before.before.before.before.before.before.before.before) in
+    Examined c.before.before.before.before.before.before.before.before.before.before.before.before.before.before.before.before.before.before.before.before.args.p v
+    (named c.before.before.before.before.before.before.before.before.before.before.before.before.before.before.before.before.before.before.before.before.args.drive)
+    (segments c.before.before.before.before.before.before.before.before.before.before.before.before.before.before.before.before.before.before.before.before.args.p v
+    (named c.before.before.before.before.before.before.before.before.before.before.before.before.before.before.before.before.before.before.before.before.args.drive)) c.examine-e.result
 said c =
-    let start = c.before.before.before.before.before.before.before.before.before.before.before.before.before.before.before.before.before.before.before.before in
     let at_only_drive_gone = c.before.before.before.before.before.before.before.before.before.before.before.before.before in
+    let start = at_only_drive_gone.before.before.before.before.before.before.before in
     let only-drive = at_only_drive_gone.only_drive-gone in
     let p = start.args.p in
     let v = seen p start.args.offline.now (diskIn start) in
@@ -82,8 +95,8 @@ said c =
 
 pub returns-then-e-p : goal.returns-then-e-p
 returns-then-e-p c =
-    let start = c.before.before.before.before.before.before.before.before.before.before.before.before.before.before.before.before.before.before.before.before.before.before.before.before in
     let at_examine = c.before.before.before.before in
+    let start = at_examine.before.before.before.before.before.before.before.before.before.before.before.before.before.before.before.before.before.before.before.before in
     let p = c.args.p in
     let d = c.args.drive in
     let off = c.args.offline.now in
@@ -93,8 +106,8 @@ returns-then-e-p c =
 
 pub restore-requires : goal.restore-requires
 restore-requires c =
-    let start = c.before.before.before.before.before.before.before.before.before.before.before.before.before.before.before.before.before.before.before.before.before.before.before.before.before.before.before.before.before.before.before in
     let at_examine = c.before.before.before.before.before.before.before.before.before.before.before in
+    let start = at_examine.before.before.before.before.before.before.before.before.before.before.before.before.before.before.before.before.before.before.before.before in
     let if1 = c.if-e-p in
     let x = c.examine-e in
     let l = c.gather in
@@ -106,7 +119,12 @@ restore-requires c =
     let z : x.result.zone ≡ p.Z = omega (arith, if1.false, zone_le p v (named d) x.result ex) in
     let rows = l.new.rows in
     let serials = l.new.serials in
-    let kept = l.new.kept in record { drive_value = c.requires; drive_value_2 = no_faults p v (named d) x.result ex z; ends_gathered = subst (λ (g : ℕ). EndsGathered p v g kept serials rows) (only-drive.ensures ∙ only-named d) (l.ensures.keeps, l.ensures.serials, l.ensures.flags_rows) }
+    let kept = l.new.kept in record {
+      drive_value = c.requires;
+      drive_value_2 = no_faults p v (named d) x.result ex z;
+      ends_gathered = subst
+          (λ (g : ℕ). EndsGathered p v g kept serials rows) (only-drive.ensures ∙ only-named d) (l.ensures.keeps, l.ensures.serials, l.ensures.flags_rows);
+    }
 
 pub returns : goal.returns
 returns c =

@@ -32,12 +32,18 @@ rebuild_stores-made-requires c =
     let off = a.offline.now in
     let k = diskIn (goal.at.rebuild_stores-made-requires c).Start in
     let m = memoryIn (goal.at.rebuild_stores-made-requires c).Start in
-    let rd = rebuild_ready p off k m d q.drive_value in record { p_value = rd.in_range_holds; whole = (whole_of p off k m rd.lent, (lengths_of p off k m rd.lent).offline_ok); gone_value = (
-            c.only_drive-gone.ensures ∙ only-named d,
-            rd.drive_low,
-            rows-ready p off k m d rd q.drive_value_2 a.kept.now a.serials.now a.rows.now q.ends_gathered,
-            zones_ready p off k m d rd q.drive_value_2 a.kept.now a.serials.now a.rows.now q.ends_gathered,
-          ); good_recs = recs_ready p off k m d rd q.drive_value_2 a.kept.now a.serials.now a.rows.now q.ends_gathered; all_fit = stores_fit p off k m d rd q.drive_value_2 a.kept.now a.serials.now a.rows.now q.ends_gathered (λ i. omega (arith, slice-known.given i)) }
+    let rd = rebuild_ready p off k m d q.drive_value in record {
+      p_value = rd.in_range_holds;
+      whole = (whole_of p off k m rd.lent, (lengths_of p off k m rd.lent).offline_ok);
+      gone_value = (
+        c.only_drive-gone.ensures ∙ only-named d,
+        rd.drive_low,
+        rows-ready p off k m d rd q.drive_value_2 a.kept.now a.serials.now a.rows.now q.ends_gathered,
+        zones_ready p off k m d rd q.drive_value_2 a.kept.now a.serials.now a.rows.now q.ends_gathered,
+      );
+      good_recs = recs_ready p off k m d rd q.drive_value_2 a.kept.now a.serials.now a.rows.now q.ends_gathered;
+      all_fit = stores_fit p off k m d rd q.drive_value_2 a.kept.now a.serials.now a.rows.now q.ends_gathered (λ i. omega (arith, slice-known.given i));
+    }
 
 pub returns-then-made : goal.returns-then-made
 returns-then-made c =

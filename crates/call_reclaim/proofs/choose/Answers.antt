@@ -121,13 +121,15 @@ module _ (c : Else4) where
   passed : refusal entered ≡ first_refusal (later_checks entered.args.p (view entered) (state_of entered.args.bytes.now) entered.args.addresses.now (taken entered))
   passed =
       let l = c.before.before.list_rule-rule in
-      front_passes entered.args.p entered.args.offline.now (disk entered) (memory entered) (fits c.before.before.before) (lent c.before.before.before) l.result l.ensures c.before.if-rule-ne0.false (sym entered.requires.2 ∙ c.if-missing-ne0.false)
+      front_passes entered.args.p entered.args.offline.now (disk entered) (memory entered) (fits c.before.before.before) (lent c.before.before.before) l.result l.ensures
+      c.before.if-rule-ne0.false (sym entered.requires.2 ∙ c.if-missing-ne0.false)
 
 pub look-seen-requires : goal.look-seen-requires
 look-seen-requires c =
     let at_else = c.before.before.before.before in
     let s = entered c.before in
-    let l = lent_long_lem s.args.p s.args.offline.now (disk s) (memory s) (lent at_else) in record { p_value = fits at_else; whole = (record { image_long = l.0; pointers_long = l.1 }, l.5); addresses_len = (l.2, s.requires.3) }
+    let l = lent_long_lem s.args.p s.args.offline.now (disk s) (memory s) (lent at_else) in
+    record { p_value = fits at_else; whole = (record { image_long = l.0; pointers_long = l.1 }, l.5); addresses_len = (l.2, s.requires.3) }
 
 pub returns-then-p-seen : goal.returns-then-p-seen
 returns-then-p-seen c =
@@ -141,10 +143,17 @@ returns-then-p-seen c =
 pub choose_copy-choice-requires : goal.choose_copy-choice-requires
 choose_copy-choice-requires c =
     let at_else = c.before.before.before.before.before.before.before.before in
-    let at_else' = c.before.before.before.before.before.before.before.before.before.before.before in
+    let at_else' = at_else.before.before.before in
     let s = entered at_else in
     let k = c.look-seen in
-    let l = lent_long_lem s.args.p s.args.offline.now (disk s) (memory s) (lent at_else') in record { p_value = fits at_else'; whole = (record { image_long = l.0; pointers_long = l.1 }, l.5); f_value = (s.requires.0, s.requires.1, s.requires.3); looked = (k.ensures, omega (arith, c.if-p-seen.false), omega (arith, c.if-seen-gt0.true)) }
+    let l = lent_long_lem s.args.p s.args.offline.now (disk s) (memory s) (lent at_else') in
+    record {
+      p_value = fits at_else';
+      whole = (record { image_long = l.0; pointers_long = l.1 }, l.5);
+      f_value = (s.requires.0, s.requires.1, s.requires.3);
+      looked =
+          (k.ensures, omega (arith, c.if-p-seen.false), omega (arith, c.if-seen-gt0.true));
+    }
 
 pub returns-then-seen-gt0 : goal.returns-then-seen-gt0
 returns-then-seen-gt0 c =
@@ -162,9 +171,9 @@ has_fault-requires c =
 dead : (c : After-has_fault) → let s = entered c.before.before.before.before.before.before.before.before in
     refusal s ≡ cond c.has_fault.result (some (BadZone 0)) (first_refusal (zones [] ∷ []))
 dead c =
-    let at_else = c.before.before.before.before.before.before.before.before in
-    let at_look_seen = c.before.before.before.before.before.before.before in
     let at_if_p_seen = c.before.before.before in
+    let at_look_seen = at_if_p_seen.before.before.before.before in
+    let at_else = at_look_seen.before in
     let s = entered at_else in
     let a = s.args in
     let k = at_look_seen.look-seen in
@@ -176,8 +185,8 @@ dead c =
 
 pub returns-then-has_fault : goal.returns-then-has_fault
 returns-then-has_fault c =
-    let at_else = c.before.before.before.before.before.before.before.before.before.before.before in
     let at_has_fault = c.before.before.before in
+    let at_else = at_has_fault.before.before.before.before.before.before.before.before in
     said (entered at_else) c.refuse-then-has_fault.result.segment c.refuse-then-has_fault.result.choice (BadZone 0) c.refuse-then-has_fault.ensures
     (dead at_has_fault ∙ ap (λ (x : Bool). cond x (some (BadZone 0)) (first_refusal (zones [] ∷ []))) c.if-has_fault.true)
 

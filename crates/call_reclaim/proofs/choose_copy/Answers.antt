@@ -71,7 +71,8 @@ pub returns-then-first-none : goal.returns-then-first-none
 returns-then-first-none c =
     let start = c.before.before.before.before.before.before.before.before.before.before in
     let a = c.args in
-    idle_fails a.p (view start) (state start) a.addresses.now (taken start) (some-taken start) (some-live start) (c.requires.looked.0.none_idle ∙ eq-eqb a.seen.first.0 never_place c.if-first-none.true)
+    idle_fails a.p (view start) (state start) a.addresses.now (taken start) (some-taken start) (some-live start)
+    (c.requires.looked.0.none_idle ∙ eq-eqb a.seen.first.0 never_place c.if-first-none.true)
 
 pub copy_rules-c-requires : goal.copy_rules-c-requires
 copy_rules-c-requires c =
@@ -80,7 +81,9 @@ copy_rules-c-requires c =
     let q = c.requires.f_value in record { p_value = c.requires.p_value; pointers_len = (c.requires.whole.0.pointers_long, c.requires.whole.1, q.1 ∙ sym (front_aim a.p (state start) a.f q.0)) }
 
 -- the rules of a copy, as they come out
-rules-are : (c : After-copy_rules) → checked c.copy_rules-c.result ≡ first_refusal (copy_rules c.before.before.before.before.before.before.before.before.before.before.args.p (view c.before.before.before.before.before.before.before.before.before.before) (state c.before.before.before.before.before.before.before.before.before.before))
+rules-are : (c : After-copy_rules) → checked c.copy_rules-c.result ≡ first_refusal
+    (copy_rules c.before.before.before.before.before.before.before.before.before.before.args.p
+    (view c.before.before.before.before.before.before.before.before.before.before) (state c.before.before.before.before.before.before.before.before.before.before))
 rules-are c =
     let start = c.before.before.before.before.before.before.before.before.before.before in
     c.copy_rules-c.ensures (state start) start.args.image.now start.requires.f_value.0 start.requires.whole.0.image_long
@@ -96,14 +99,16 @@ pub has_fault-requires : goal.has_fault-requires
 has_fault-requires c = record { p_value = c.requires.p_value; bytes_len = c.requires.f_value.2 }
 
 -- the zones at fault, once the rules pass
-from_zones : (c : After-has_fault) → let o = c.before.before.before.before.before.before.before.before.before.before.before.before.args.seen.odd in later c.before.before.before.before.before.before.before.before.before.before.before.before ≡ cond c.has_fault.result (some (BadZone 0)) (cond (eqb o 1024) none (some (BadZone o)))
+from_zones : (c : After-has_fault) → let o = c.before.before.before.before.before.before.before.before.before.before.before.before.args.seen.odd in later
+    c.before.before.before.before.before.before.before.before.before.before.before.before ≡ cond c.has_fault.result (some (BadZone 0)) (cond (eqb o 1024) none (some (BadZone o)))
 from_zones c =
-    let start = c.before.before.before.before.before.before.before.before.before.before.before.before in
     let at_if_first_none = c.before.before.before in
+    let start = at_if_first_none.before.before.before.before.before.before.before.before.before in
     let a = start.args in
     let k = start.requires.looked in
     let e : first_refusal (copy_rules a.p (view start) (state start)) ≡ none = sym (rules-are c.before.before) ∙ ap checked c.before.in_default.is in
-    from-rules start at_if_first_none.if-first-none.false ∙ ap (λ (x : Opt Answer). or_next x (first_refusal (zones (bad_zones a.p (view start) (state start) a.addresses.now (taken start)) ∷ []))) e
+    from-rules start at_if_first_none.if-first-none.false
+    ∙ ap (λ (x : Opt Answer). or_next x (first_refusal (zones (bad_zones a.p (view start) (state start) a.addresses.now (taken start)) ∷ []))) e
     ∙ zones_odd a.p (ranged a.p start.requires.p_value) (view start) (state start) a.addresses.now (taken start) c.has_fault.result a.seen.odd
     (λ zs. c.has_fault.ensures (view start) a.addresses.now zs (k.0.outside k.1)) k.0.odd
 
@@ -121,7 +126,7 @@ returns-then-seen-ne1024 c =
 pub returns : goal.returns
 returns c =
     let at_has_fault = c.before.before.before.before in
-    let start = c.before.before.before.before.before.before.before.before.before.before.before.before.before.before.before.before in
+    let start = at_has_fault.before.before.before.before.before.before.before.before.before.before.before.before in
     let a = c.args in
     let k = c.requires.looked in
     let o = a.seen.odd in

@@ -25,7 +25,8 @@ compact_at-at-requires c =
     let a = c.args in
     let loop = c.loop-d in
     let pre = c.requires in
-    let z = low_here a.p a.segment loop.d pre.compact_len.1 c.loop-d-test.true in record { p_value = pre.p_value; drive_lt_n = (c.loop-d-test.true, omega (arith, c.zone_on-zone.ensures, z), omega (arith, (ranged a.p pre.p_value).stripes_low)) }
+    let z = low_here a.p a.segment loop.d pre.compact_len.1 c.loop-d-test.true in
+    record { p_value = pre.p_value; drive_lt_n = (c.loop-d-test.true, omega (arith, c.zone_on-zone.ensures, z), omega (arith, (ranged a.p pre.p_value).stripes_low)) }
 
 pub clear_part-requires : goal.clear_part-requires
 clear_part-requires c =

@@ -70,24 +70,27 @@ chosen c x q =
 pub reset_segment-requires : goal.reset_segment-requires
 reset_segment-requires c =
     let at_choose = c.before.before.before.before.before.before in
-    let start' = c.before.before.before.before.before.before.before.before.before.before.before.before.before.before.before.before in
+    let start' = at_choose.before.before.before.before.before.before.before.before.before.before in
     let h = chosen at_choose _ c.in-Clear.is in
-    let l = lent c.args.p c.args.offline.now (disk start') (memory start' c.args.state) h.0 in record { p_value = l.in_range_holds; pointers_len = (l.whole.pointers_long, l.addresses_long, l.compact_long, h.3) }
+    let l = lent c.args.p c.args.offline.now (disk start') (memory start' c.args.state) h.0 in
+    record { p_value = l.in_range_holds; pointers_len = (l.whole.pointers_long, l.addresses_long, l.compact_long, h.3) }
 
 pub copy_block-requires : goal.copy_block-requires
 copy_block-requires c =
     let at_choose = c.before.before.before.before.before.before.before.before in
-    let start' = c.before.before.before.before.before.before.before.before.before.before.before.before.before.before.before.before.before.before in
-    let at_aim_of = c.before.before.before.before.before.before.before.before.before in
+    let at_aim_of = at_choose.before in
+    let start' = at_aim_of.before.before.before.before.before.before.before.before.before in
     let a = c.args in
     let e = c.requires.0 in
     let h = chosen at_choose _ c.in-Copy.is in
-    let r = subst (λ (x : State). CopyReady a.p a.offline.now (disk start') (memory start' x)) e (copy_ready a.p a.offline.now (disk start') (memory start' a.state) h.0 h.1) in record { copy_ready = r; f_value = (c.front_of-f.ensures ∙ ap front_of e, aimed at_aim_of ∙ ap (aim_of a.p) e, c.requires.1); q_bound = (h.3, h.4); q_value = (h.5, h.6) }
+    let r = subst (λ (x : State). CopyReady a.p a.offline.now (disk start') (memory start' x)) e
+    (copy_ready a.p a.offline.now (disk start') (memory start' a.state) h.0 h.1) in
+    record { copy_ready = r; f_value = (c.front_of-f.ensures ∙ ap front_of e, aimed at_aim_of ∙ ap (aim_of a.p) e, c.requires.1); q_bound = (h.3, h.4); q_value = (h.5, h.6) }
 
 pub returns-in-Refuse : goal.returns-in-Refuse
 returns-in-Refuse c =
-    let start' = c.before.before.before.before.before.before.before.before.before.before.before.before.before.before in
     let at_choose = c.before.before.before.before in
+    let start' = at_choose.before.before.before.before.before.before.before.before.before.before in
     let a = c.args in
     reclaim_refused a.p a.offline.now (disk start') (memory start' a.state) a.count c.kept.result (chosen at_choose _ c.in-Refuse.is ∙ ap (λ (x : Change). some x.answer) (sym c.kept.ensures))
 

@@ -24,7 +24,12 @@ pub returns-then-all-q : goal.returns-then-all-q
 returns-then-all-q c =
     let a = c.args in
     let u = a.used.now in
-    let g = get_or a.segments.now (a.q / a.cap) 0 in record { used_after = ap (λ (b : Bool). cond b (set u g (get_or u g 0 + 1)) u) (sym (le-ltb a.q a.all c.if-all-q.true)); value = ap (λ (b : Bool). bool_byte (b && ltb a.q 4294967295)) (sym (le-leb a.all a.q c.if-all-q.true)) }
+    let g = get_or a.segments.now (a.q / a.cap) 0 in
+    record {
+      used_after = ap (λ (b : Bool). cond b (set u g (get_or u g 0 + 1)) u) (sym (le-ltb a.q a.all c.if-all-q.true));
+      value = ap
+          (λ (b : Bool). bool_byte (b && ltb a.q 4294967295)) (sym (le-leb a.all a.q c.if-all-q.true));
+    }
 
 pub zone_number-t-requires : goal.zone_number-t-requires
 zone_number-t-requires c =
@@ -58,8 +63,8 @@ its_segment c =
 -- it has a count
 counted : (c : After-wide) → c.wide-g.result < length c.before.before.before.before.before.before.args.used.now
 counted c =
-    let start = c.before.before.before.before.before.before in
     let at_if_all_q = c.before.before.before in
+    let start = at_if_all_q.before.before.before in
     subst (λ (x : ℕ). x < length start.args.used.now) (sym (its_segment c)) (start.requires.cap_in_bounds (omega (arith, at_if_all_q.if-all-q.false)))
 
 pub offset_bounds-used-g : goal.offset_bounds-used-g
@@ -86,4 +91,9 @@ returns c =
     let a = c.args in
     let u = a.used.now in
     let g = get_or a.segments.now (a.q / a.cap) 0 in
-    let h : a.q < a.all = omega (arith, c.if-all-q.false) in record { used_after = ap (λ (x : ℕ). set u x (get_or u x 0 + 1)) (its_segment c.before.before) ∙ ap (λ (b : Bool). cond b (set u g (get_or u g 0 + 1)) u) (sym (lt-ltb a.q a.all h)); value = ap (λ (b : Bool). bool_byte (b && ltb a.q 4294967295)) (sym (lt-leb a.all a.q h)) }
+    let h : a.q < a.all = omega (arith, c.if-all-q.false) in
+    record {
+      used_after = ap (λ (x : ℕ). set u x (get_or u x 0 + 1)) (its_segment c.before.before)
+          ∙ ap (λ (b : Bool). cond b (set u g (get_or u g 0 + 1)) u) (sym (lt-ltb a.q a.all h));
+      value = ap (λ (b : Bool). bool_byte (b && ltb a.q 4294967295)) (sym (lt-leb a.all a.q h));
+    }

@@ -61,8 +61,12 @@ add_entry-k-requires c =
     let many : p.N * p.Z * cap ≤ 8192 * cap = mul-le-mul_right cap (zones_all p r) in
     let long : p.N * p.Z * cap ≤ length a.segments.now * cap = mul-le-mul_right cap c.requires.addresses_len.1.0 in
     let seg : q < all! → get_or a.segments.now (q / cap) 0 ≤ 1024 = λ l.
-    c.requires.addresses_len.1.1 (q / cap) (subst (λ (x : ℕ). q / x < p.N * p.Z) (sym ec.0) (zone_number_low p r q (omega (arith, l, ea)))) in record { le_cap = (ec.1, ec.2, omega (arith, ea, ep, many), refl, omega (arith, ea, ep, long)); cap_in_bounds = (λ l. omega (arith, seg l, c.loop-a.invariant.1, c.requires.addresses_len.2)); cap_bound = λ l.
-            omega (arith, c.loop-a.invariant.2.low (get_or a.segments.now (q / cap) 0) (seg l), c.loop-a.invariant.0, addresses_all p r) }
+    c.requires.addresses_len.1.1 (q / cap) (subst (λ (x : ℕ). q / x < p.N * p.Z) (sym ec.0) (zone_number_low p r q (omega (arith, l, ea)))) in record {
+      le_cap = (ec.1, ec.2, omega (arith, ea, ep, many), refl, omega (arith, ea, ep, long));
+      cap_in_bounds = (λ l. omega (arith, seg l, c.loop-a.invariant.1, c.requires.addresses_len.2));
+      cap_bound = λ l.
+          omega (arith, c.loop-a.invariant.2.low (get_or a.segments.now (q / cap) 0) (seg l), c.loop-a.invariant.0, addresses_all p r);
+    }
 
 pub overflow_add-k : goal.overflow_add-k
 overflow_add-k c =
@@ -113,4 +117,8 @@ returns c =
     let a = c.args in
     let l = c.loop-a in
     let e : l.a ≡ a.p.L = omega (arith, c.loop-a-test.false, l.invariant.0) in
-    let s = places.ensures.0 in record { taken_counted_2 = subst (λ (x : ℕ). TakenCounted a.p a.segments.now a.addresses.now x l.used) e l.invariant.2; value = l.invariant.3 ∙ (λ j. count_places a.addresses.now (e j) (s j) 4294967295) }
+    let s = places.ensures.0 in record {
+      taken_counted_2 = subst (λ (x : ℕ). TakenCounted a.p a.segments.now a.addresses.now x l.used) e l.invariant.2;
+      value =
+          l.invariant.3 ∙ (λ j. count_places a.addresses.now (e j) (s j) 4294967295);
+    }

@@ -41,7 +41,13 @@ count_zones-requires c =
     let pre = pre'.addresses_len in
     let e = c.clip-end.ensures in
     let k = c.mark_window-outside.auto.marks in
-    let s = c.places-all.ensures in record { p_value = pre'.p_value; first_le_end = (omega (arith, e, i.0), omega (arith, e, s.0), omega (arith, e, k, i.1), omega (arith, i.2, pre.3), pre'.owners_low.0); by_index = counted-le a.p a.segments.now a.addresses.now l.live l.first i.3 }
+    let s = c.places-all.ensures in record {
+      p_value = pre'.p_value;
+      first_le_end =
+          (omega (arith, e, i.0), omega (arith, e, s.0), omega (arith, e, k, i.1), omega (arith, i.2, pre.3), pre'.owners_low.0);
+      by_index = counted-le a.p a.segments.now
+          a.addresses.now l.live l.first i.3;
+    }
 
 pub loop-first-smaller : goal.loop-first-smaller
 loop-first-smaller c =
@@ -85,4 +91,11 @@ returns c =
     let f : l.first ≡ all! = omega (arith, i.0, c.loop-first-test.false) in
     let r = ranged a.p c.requires.p_value in
     let low = place_lt a.p 0 0 0 (omega (arith, r.drives_low)) (omega (arith, r.zones_low)) (omega (arith, capacity-low a.p r)) in
-    let some : 0 < l.first = omega (arith, f, s, low) in record { live_counted = (λ g h. i.3 g h ∙ ap (λ (x : ℕ). length (live_below a.p tb (numbered a.p a.segments.now g) x)) (f ∙ s)); marks = (λ h q x y. left_marks tb l.marks a.p.L l.first all! (8 * length a.marks.now) i.4 f (omega (arith, h, s)) q x (omega (arith, y, s))); value = i.5 some ∙ ap (λ (x : ℕ). count_places tb a.p.L x 4294967295) (f ∙ s) }
+    let some : 0 < l.first = omega (arith, f, s, low) in
+    record {
+      live_counted = (λ g h. i.3 g h ∙ ap (λ (x : ℕ). length (live_below a.p tb (numbered a.p a.segments.now g) x)) (f ∙ s));
+      marks =
+          (λ h q x y. left_marks tb l.marks a.p.L l.first all! (8 * length a.marks.now) i.4 f (omega (arith, h, s)) q x (omega (arith, y, s)));
+      value = i.5 some
+          ∙ ap (λ (x : ℕ). count_places tb a.p.L x 4294967295) (f ∙ s);
+    }

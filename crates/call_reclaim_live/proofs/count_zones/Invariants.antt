@@ -18,7 +18,8 @@ invariant-loop-at l =
     × (l.at ≡ l.t * l.cap)
     × (length l.live ≡ length l.initial.live)
     × ((g : ℕ) → g ≤ 1024 → get_or l.live g 0 ≤ l.from)
-    × ((p : Params) → l.cap ≡ capacity p → (tb : List ℕ) → Marks tb p.L l.marks l.first l.end → LiveCounted p l.segments tb l.initial.live l.first → LiveCounted p l.segments tb l.live l.from)
+    × ((p : Params) → l.cap ≡ capacity p → (tb : List ℕ) → Marks tb p.L l.marks l.first l.end → LiveCounted p l.segments tb l.initial.live l.first
+    → LiveCounted p l.segments tb l.live l.from)
     × (l.at ≤ l.end + 87381)
 
 abbrev pub decreases-loop-at : goal.decreases-loop-at

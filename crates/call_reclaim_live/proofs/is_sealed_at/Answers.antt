@@ -24,10 +24,14 @@ row-segment-requires c =
     (omega (arith, c.requires.pointers_len), omega (arith, c.requires.pointers_len, (ranged c.args.p c.requires.p_value).zones_high))
 
 pub is_sealed-requires : goal.is_sealed-requires
-is_sealed-requires c = record { p_value = c.requires.p_value; pointers_len = (
-        c.requires.pointers_len.0,
-        subst (λ (s : Seg). ZonesLow c.args.p 0 s) (sym c.row-segment.ensures) (c.requires.pointers_len.3 c.args.g c.requires.pointers_len.4 (not-false (get_or c.args.kept.now c.args.g false) c.if-not-kept-g.false-raw)),
-      ) }
+is_sealed-requires c = record {
+  p_value = c.requires.p_value;
+  pointers_len = (
+    c.requires.pointers_len.0,
+    subst (λ (s : Seg). ZonesLow c.args.p 0 s) (sym c.row-segment.ensures)
+        (c.requires.pointers_len.3 c.args.g c.requires.pointers_len.4 (not-false (get_or c.args.kept.now c.args.g false) c.if-not-kept-g.false-raw)),
+  );
+}
 
 pub returns : goal.returns
 returns c =

@@ -25,7 +25,15 @@ row-segment-requires c =
 
 pub vouched-requires : goal.vouched-requires
 vouched-requires c =
-    let a = c.args in record { p_value = c.requires.p_value; image_len = (c.requires.image_len.0, c.requires.image_len.1, subst (λ (s : Seg). ZonesLow a.p 0 s) (sym c.row-segment.ensures) (c.requires.z_in_bounds.2 a.g c.requires.image_len.2 (not-false (get_or a.sealed.now a.g false) c.if-not-sealed-g.false-raw))) }
+    let a = c.args in record {
+      p_value = c.requires.p_value;
+      image_len = (
+        c.requires.image_len.0,
+        c.requires.image_len.1,
+        subst (λ (s : Seg). ZonesLow a.p 0 s) (sym c.row-segment.ensures)
+            (c.requires.z_in_bounds.2 a.g c.requires.image_len.2 (not-false (get_or a.sealed.now a.g false) c.if-not-sealed-g.false-raw)),
+      );
+    }
 
 pub returns : goal.returns
 returns c =

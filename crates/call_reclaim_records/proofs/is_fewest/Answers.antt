@@ -12,7 +12,11 @@ pub loop-g-init : goal.loop-g-init
 loop-g-init c = (omega arith, λ k h. absurd (let q : ⊥ = omega arith in q))
 
 pub is_enough-requires : goal.is_enough-requires
-is_enough-requires c = record { p_value = c.requires.p_value; image_len = (c.requires.image_len.0, c.requires.image_len.1, c.loop-g-test.true, c.requires.image_len.2); z_in_bounds = c.requires.z_in_bounds }
+is_enough-requires c = record {
+  p_value = c.requires.p_value;
+  image_len = (c.requires.image_len.0, c.requires.image_len.1, c.loop-g-test.true, c.requires.image_len.2);
+  z_in_bounds = c.requires.z_in_bounds;
+}
 
 pub returns-then-not-is_enough : goal.returns-then-not-is_enough
 returns-then-not-is_enough c = λ t. absurd (not_both false t refl)

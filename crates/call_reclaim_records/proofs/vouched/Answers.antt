@@ -35,7 +35,11 @@ its_zone c =
 
 pub vouched_zone-c-requires : goal.vouched_zone-c-requires
 vouched_zone-c-requires c =
-    let h = c.requires.image_len in record { p_value = c.requires.p_value; image_len = (h.0, h.1, c.loop-d-test.true, subst (λ (x : ℕ). x < c.args.p.Z) (sym c.zone_on-zone.ensures) (its_zone (goal.at.vouched_zone-c-requires c).After-zone_on-zone)) }
+    let h = c.requires.image_len in record {
+      p_value = c.requires.p_value;
+      image_len =
+          (h.0, h.1, c.loop-d-test.true, subst (λ (x : ℕ). x < c.args.p.Z) (sym c.zone_on-zone.ensures) (its_zone (goal.at.vouched_zone-c-requires c).After-zone_on-zone));
+    }
 
 -- a drive more
 more : (c : After-vouched_zone-c) → let l = c.loop-d in

@@ -56,8 +56,8 @@ one_more : (c : After-same)
     c.before.before.before.before.before.before.before.before.args.l c.before.before.before.before.before.before.before.before.args.q
     (c.before.before.before.before.before.loop-i.i + 1))
 one_more c =
-    let start = c.before.before.before.before.before.before.before.before in
     let at_loop_i = c.before.before.before.before.before in
+    let start = at_loop_i.before.before.before in
     let clipped = c.before.before.clipped-a in
     let s = start.args in
     let l = at_loop_i.loop-i in
@@ -69,8 +69,8 @@ one_more c =
 -- which is no more than the places
 within : (c : After-same) → c.before.before.before.before.before.loop-i.c + c.same-c.result ≤ c.before.before.before.before.before.loop-i.i + 1
 within c =
-    let start = c.before.before.before.before.before.before.before.before in
     let at_loop_i = c.before.before.before.before.before in
+    let start = at_loop_i.before.before.before in
     let s = start.args in
     omega (arith, one_more c, run_le (is_pointed s.addresses.now s.l) s.q (at_loop_i.loop-i.i + 1))
 

@@ -103,11 +103,17 @@ block_more : (c : After-vouched_run)
     c.before.before.before.before.before.before.before.before.place_of-first.result.0
     (c.before.before.before.before.loop-f.o + c.before.run_len-n.result))
 block_more c =
-    let start = c.before.before.before.before.before.before.before.before.before.before.before.before.before.before in
     let at_loop_f = c.before.before.before.before in
-    let at_place_of_first = c.before.before.before.before.before.before.before.before in
+    let at_place_of_first = at_loop_f.before.before.before.before in
+    let start = at_place_of_first.before.before.before.before.before.before in
     let a = start.args in
-    omega (arith, c.vouched_run-c.ensures, at_loop_f.loop-f.invariant.2, run_add (is_pointed a.addresses.now a.p.L) at_place_of_first.place_of-first.result.0 at_loop_f.loop-f.o c.before.run_len-n.result)
+    omega (
+      arith,
+      c.vouched_run-c.ensures,
+      at_loop_f.loop-f.invariant.2,
+      run_add (is_pointed a.addresses.now a.p.L) at_place_of_first.place_of-first.result.0
+          at_loop_f.loop-f.o c.before.run_len-n.result,
+    )
 
 within : (c : After-vouched_run)
     → (c.before.before.before.before.loop-f.o + c.before.run_len-n.result
@@ -115,9 +121,9 @@ within : (c : After-vouched_run)
     × (c.before.before.before.before.loop-f.c + c.vouched_run-c.result
     ≤ c.before.before.before.before.before.before.before.before.before.before.before.before.before.before.args.p.S)
 within c =
-    let start = c.before.before.before.before.before.before.before.before.before.before.before.before.before.before in
     let at_loop_f = c.before.before.before.before in
-    let at_place_of_first = c.before.before.before.before.before.before.before.before in
+    let at_place_of_first = at_loop_f.before.before.before.before in
+    let start = at_place_of_first.before.before.before.before.before.before in
     let a = start.args in
     let e : at_loop_f.loop-f.o + c.before.run_len-n.result ≤ a.p.S = omega (arith, c.before.run_len-n.ensures, at_loop_f.loop-f.invariant.1) in
     (e, omega (arith, e, block_more c, run_le (is_pointed a.addresses.now a.p.L) at_place_of_first.place_of-first.result.0 (at_loop_f.loop-f.o + c.before.run_len-n.result)))
@@ -134,15 +140,21 @@ overflow_add-o c =
 in_image : (c : After-vouched_run) → c.before.before.before.before.loop-f.at ≤ 2946336325632
 unfolding capacity
 in_image c =
-    let start = c.before.before.before.before.before.before.before.before.before.before.before.before.before.before in
-    let at_loop_f = c.before.before.before.before in
     let at_loop_f_test = c.before.before.before in
-    let at_footers_feet = c.before.before.before.before.before.before.before.before.before.before in
+    let at_loop_f = at_loop_f_test.before in
+    let at_footers_feet = at_loop_f.before.before.before.before.before.before in
+    let start = at_footers_feet.before.before.before.before in
     let a = start.args in
     let p = a.p in
     let r = ranged p start.requires.p_value in
     let h = start.requires.image_len in
-    omega (arith, at_loop_f.loop-f.invariant.3, image_high p r, block_within p a.drive a.zone (1 + p.S + at_loop_f.loop-f.f) h.2 h.3 (omega (arith, at_loop_f_test.loop-f-test.true, at_footers_feet.footers-feet.ensures.0)))
+    omega (
+      arith,
+      at_loop_f.loop-f.invariant.3,
+      image_high p r,
+      block_within p a.drive a.zone (1 + p.S + at_loop_f.loop-f.f) h.2 h.3
+          (omega (arith, at_loop_f_test.loop-f-test.true, at_footers_feet.footers-feet.ensures.0)),
+    )
 
 pub overflow_add-at : goal.overflow_add-at
 overflow_add-at c =

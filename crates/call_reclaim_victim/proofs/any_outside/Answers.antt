@@ -25,7 +25,13 @@ find_owners-requires c =
     let r = ranged a.p c.requires.p_value in
     let k = c.find_kept in
     let v = view_of a.p a.offline.now a.image.now a.pointers.now in
-    let few = zones_all a.p r in record { p_value = c.requires.p_value; z_in_bounds = (k.ensures.flags_rows.0, k.ensures.keeps.0, few, owners_rows-low a.p r v k.new.rows k.new.kept k.ensures.flags_rows k.ensures.keeps); by_index = λ t l. get_or-replicate 8192 t 1024 0 (omega (arith, l, few)) }
+    let few = zones_all a.p r in record {
+      p_value = c.requires.p_value;
+      z_in_bounds =
+          (k.ensures.flags_rows.0, k.ensures.keeps.0, few, owners_rows-low a.p r v k.new.rows k.new.kept k.ensures.flags_rows k.ensures.keeps);
+      by_index = λ t l.
+          get_or-replicate 8192 t 1024 0 (omega (arith, l, few));
+    }
 
 pub count_entries-beyond-requires : goal.count_entries-beyond-requires
 count_entries-beyond-requires c =
@@ -37,7 +43,13 @@ count_entries-beyond-requires c =
     let v = view_of p a.offline.now a.image.now a.pointers.now in
     let ss = f.new.owners in
     let all! = subst (λ (x : ℕ). p.N * p.Z ≤ x) (sym (f.auto.owners ∙ length-replicate {A = ℕ} 8192 1024)) (zones_all p r) in
-    let low = owners_low p r v k.new.rows k.new.kept k.ensures.flags_rows k.ensures.keeps ss f.ensures in record { p_value = c.requires.p_value; addresses_len = (c.requires.addresses_len, (all!, low), omega arith); taken_counted = entered_none p ss a.addresses.now (replicate 1025 0) (λ g l. get_or-replicate 1025 g 0 0 (omega (arith, l))) }
+    let low = owners_low p r v k.new.rows k.new.kept k.ensures.flags_rows k.ensures.keeps ss f.ensures in
+    record {
+      p_value = c.requires.p_value;
+      addresses_len = (c.requires.addresses_len, (all!, low), omega arith);
+      taken_counted = entered_none p ss a.addresses.now
+          (replicate 1025 0) (λ g l. get_or-replicate 1025 g 0 0 (omega (arith, l)));
+    }
 
 pub overflow_add-result : goal.overflow_add-result
 overflow_add-result c =

@@ -53,7 +53,12 @@ idle_run-found-requires c =
     let pre = c.requires in
     let h = pre.first_le_end in
     let i = c.loop-at.invariant in
-    let e = c.clip-to.ensures in record { p_value = pre.p_value; whole = (pre.whole.0, pre.whole.1); first_le_lo = (omega (arith, i.0, h.0), omega (arith, i.0, e, h.0), omega (arith, e, h.1), omega (arith, e, h.2), h.3) }
+    let e = c.clip-to.ensures in record {
+      p_value = pre.p_value;
+      whole = (pre.whole.0, pre.whole.1);
+      first_le_lo =
+          (omega (arith, i.0, h.0), omega (arith, i.0, e, h.0), omega (arith, e, h.1), omega (arith, e, h.2), h.3);
+    }
 
 pub overflow_add-at-in-loop-at : goal.overflow_add-at-in-loop-at
 overflow_add-at-in-loop-at c =

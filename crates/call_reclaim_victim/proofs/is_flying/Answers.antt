@@ -13,7 +13,8 @@ pub place_record-r-requires : goal.place_record-r-requires
 place_record-r-requires c =
     let a = c.args in
     let pre = c.requires in
-    let d = data_there a.p a.place.0 pre.p_value pre.place_bound.0 pre.place_bound.1 in record { p_value = pre.p_value; whole = pre.whole.0; data_place = (d, pre.whole.1, low_here a.p a.segment (place_drive a.p a.place.0) pre.whole.1 d.drive_low) }
+    let d = data_there a.p a.place.0 pre.p_value pre.place_bound.0 pre.place_bound.1 in
+    record { p_value = pre.p_value; whole = pre.whole.0; data_place = (d, pre.whole.1, low_here a.p a.segment (place_drive a.p a.place.0) pre.whole.1 d.drive_low) }
 
 pub returns : goal.returns
 returns c =

@@ -25,12 +25,16 @@ find_sealed-requires c =
     let a = c.args in
     let r = ranged a.p c.requires.p_value in
     let k = c.find_kept in
-    let v = view_of a.p a.offline.now a.image.now a.pointers.now in record { p_value = c.requires.p_value; pointers_len = (
-          c.requires.whole.0.pointers_long,
-          k.ensures.flags_rows.0,
-          k.ensures.keeps.0,
-          owners_rows-low a.p r v k.new.rows k.new.kept k.ensures.flags_rows k.ensures.keeps,
-        ); z_in_bounds = r.zones_high }
+    let v = view_of a.p a.offline.now a.image.now a.pointers.now in record {
+      p_value = c.requires.p_value;
+      pointers_len = (
+        c.requires.whole.0.pointers_long,
+        k.ensures.flags_rows.0,
+        k.ensures.keeps.0,
+        owners_rows-low a.p r v k.new.rows k.new.kept k.ensures.flags_rows k.ensures.keeps,
+      );
+      z_in_bounds = r.zones_high;
+    }
 
 pub any_sealed-requires : goal.any_sealed-requires
 any_sealed-requires c =
@@ -61,7 +65,13 @@ find_owners-requires c =
     let r = ranged a.p c.requires.p_value in
     let k = c.find_kept in
     let v = view_of a.p a.offline.now a.image.now a.pointers.now in
-    let few = zones_all a.p r in record { p_value = c.requires.p_value; z_in_bounds = (k.ensures.flags_rows.0, k.ensures.keeps.0, few, owners_rows-low a.p r v k.new.rows k.new.kept k.ensures.flags_rows k.ensures.keeps); by_index = λ t l. get_or-replicate 8192 t 1024 0 (omega (arith, l, few)) }
+    let few = zones_all a.p r in record {
+      p_value = c.requires.p_value;
+      z_in_bounds =
+          (k.ensures.flags_rows.0, k.ensures.keeps.0, few, owners_rows-low a.p r v k.new.rows k.new.kept k.ensures.flags_rows k.ensures.keeps);
+      by_index = λ t l.
+          get_or-replicate 8192 t 1024 0 (omega (arith, l, few));
+    }
 
 pub look_in-requires : goal.look_in-requires
 look_in-requires c =
@@ -74,11 +84,15 @@ look_in-requires c =
     let w = c.requires.whole.0 in
     let v = view_of p a.offline.now a.image.now a.pointers.now in
     let long = subst (λ (x : ℕ). p.Z ≤ x) (sym (s.auto.sealed ∙ length-replicate {A = Bool} 1024 false)) r.zones_high in
-    let all! = subst (λ (x : ℕ). p.N * p.Z ≤ x) (sym (f.auto.owners ∙ length-replicate {A = ℕ} 8192 1024)) (zones_all p r) in record { p_value = c.requires.p_value; whole = (
-          w,
-          fitted p r v k.new.rows k.new.kept k.ensures.flags_rows k.ensures.keeps f.new.owners f.ensures s.new.sealed long all!
-              (s.ensures a.offline.now a.image.now w.image_long),
-        ); addresses_len = c.requires.addresses_len }
+    let all! = subst (λ (x : ℕ). p.N * p.Z ≤ x) (sym (f.auto.owners ∙ length-replicate {A = ℕ} 8192 1024)) (zones_all p r) in record {
+      p_value = c.requires.p_value;
+      whole = (
+        w,
+        fitted p r v k.new.rows k.new.kept k.ensures.flags_rows k.ensures.keeps f.new.owners f.ensures s.new.sealed long all!
+            (s.ensures a.offline.now a.image.now w.image_long),
+      );
+      addresses_len = c.requires.addresses_len;
+    }
 
 pub returns : goal.returns
 returns c =

@@ -26,7 +26,14 @@ use Rattle.call_reclaim_victim.proofs.look_by_records.Goals.{After-count_entries
 pub count_entries-beyond-requires : goal.count_entries-beyond-requires
 count_entries-beyond-requires c =
     let a = c.args in
-    let n : length {A = ℕ} (replicate 1025 0) ≡ 1025 = length-replicate {A = ℕ} 1025 0 in record { p_value = c.requires.p_value; addresses_len = (c.requires.addresses_len.0, c.requires.whole.1.owners, subst (λ (x : ℕ). 1024 < x) (sym n) (omega arith)); taken_counted = entered_none a.p a.segments.now a.addresses.now (replicate 1025 0) (λ g l. get_or-replicate 1025 g 0 0 (omega (arith, l))) }
+    let n : length {A = ℕ} (replicate 1025 0) ≡ 1025 = length-replicate {A = ℕ} 1025 0 in
+    record {
+      p_value = c.requires.p_value;
+      addresses_len =
+          (c.requires.addresses_len.0, c.requires.whole.1.owners, subst (λ (x : ℕ). 1024 < x) (sym n) (omega arith));
+      taken_counted = entered_none a.p a.segments.now
+          a.addresses.now (replicate 1025 0) (λ g l. get_or-replicate 1025 g 0 0 (omega (arith, l)));
+    }
 
 pub overflow_add-outside : goal.overflow_add-outside
 overflow_add-outside c =
@@ -60,7 +67,8 @@ told-outside c off sh =
     let t = ap length (taken_live p a.segments.now tb 1024) in
     outside-count p (ranged p c.requires.p_value) (view_of p off a.image.now a.pointers.now) tb a.segments.now (omega (arith, c.requires.addresses_len.0))
     (λ x. omega (arith, c.shared_slice_known-6-1.given x))
-    sh.placed n.result (get_or used 1024 0) n.ensures.value (omega (arith, t, n.ensures.taken_counted_2.most 1024 (omega arith))) (λ x. omega (arith, t, n.ensures.taken_counted_2.least 1024 (omega arith) x))
+    sh.placed n.result (get_or used 1024 0) n.ensures.value (omega (arith, t, n.ensures.taken_counted_2.most 1024 (omega arith)))
+    (λ x. omega (arith, t, n.ensures.taken_counted_2.least 1024 (omega arith) x))
 
 pub returns-then-p-g : goal.returns-then-p-g
 returns-then-p-g c = record { zone_lt_z = (λ t. absurd (not_both false t refl)); by_index = λ off sh t. absurd (not_both false t refl) }
@@ -79,15 +87,19 @@ returns-then-n-eq0 c =
     let g = c.fewest-g.result in
     let le = c.fewest-g.ensures in
     let h : g < p.Z = omega (arith, c.if-p-g.false) in
-    let t : Told = record { sure = true; zone = g; live = 0; first = record { 0 = 4294967295 }; outside = not (eqb (n.result + get_or used 1024 0) 0) } in record { zone_lt_z = (λ _. h); by_index = λ off sh _.
+    let t : Told = record { sure = true; zone = g; live = 0; first = record { 0 = 4294967295 }; outside = not (eqb (n.result + get_or used 1024 0) 0) } in record {
+      zone_lt_z = (λ _. h);
+      by_index = λ off sh _.
           looked_empty p (ranged p c.requires.p_value) (v off) a.addresses.now a.rows.now a.segments.now a.sealed.now sh (state_of a.bytes.now) g h (le.taken h) used n.ensures.taken_counted_2 le
-          c.if-n-eq0.true (chosen_of a.rows.now t) refl refl refl refl refl (told-outside (goal.at.returns-then-n-eq0 c).After-count_entries-beyond off sh) }
+          c.if-n-eq0.true (chosen_of a.rows.now t) refl refl refl refl refl (told-outside (goal.at.returns-then-n-eq0 c).After-count_entries-beyond off sh);
+    }
 
 pub is_quick-requires : goal.is_quick-requires
 is_quick-requires c =
     let p = c.args.p in
     let r = ranged p c.requires.p_value in
-    let low = c.count_entries-beyond.ensures.taken_counted_2.low c.fewest-g.result (omega (arith, c.if-p-g.false, r.zones_high)) in record { p_value = c.requires.p_value; z_in_bounds = (long-used (goal.at.is_quick-requires c).After-count_entries-beyond, omega (arith, low, addresses_all p r)) }
+    let low = c.count_entries-beyond.ensures.taken_counted_2.low c.fewest-g.result (omega (arith, c.if-p-g.false, r.zones_high)) in
+    record { p_value = c.requires.p_value; z_in_bounds = (long-used (goal.at.is_quick-requires c).After-count_entries-beyond, omega (arith, low, addresses_all p r)) }
 
 pub returns-then-not-is_quick : goal.returns-then-not-is_quick
 returns-then-not-is_quick c = record { zone_lt_z = (λ t. absurd (not_both false t refl)); by_index = λ off sh t. absurd (not_both false t refl) }
@@ -101,7 +113,13 @@ pub see_segment-seen-requires : goal.see_segment-seen-requires
 see_segment-seen-requires c =
     let nu = c.requires.whole.1 in
     let g = c.fewest-g.result in
-    let l : g < c.args.p.Z = omega (arith, c.if-p-g.false) in record { p_value = c.requires.p_value; whole = (c.requires.whole.0, subst (λ (s : Seg). ZonesLow c.args.p 0 s) (sym c.row-segment.ensures) (nu.zones_low g l (c.fewest-g.ensures.taken l))); addresses_len = c.requires.addresses_len }
+    let l : g < c.args.p.Z = omega (arith, c.if-p-g.false) in
+    record {
+      p_value = c.requires.p_value;
+      whole =
+          (c.requires.whole.0, subst (λ (s : Seg). ZonesLow c.args.p 0 s) (sym c.row-segment.ensures) (nu.zones_low g l (c.fewest-g.ensures.taken l)));
+      addresses_len = c.requires.addresses_len;
+    }
 
 pub returns-then-seen-n : goal.returns-then-seen-n
 returns-then-seen-n c = record { zone_lt_z = (λ t. absurd (not_both false t refl)); by_index = λ off sh t. absurd (not_both false t refl) }
@@ -111,7 +129,12 @@ is_fewest-sure-requires c =
     let p = c.args.p in
     let r = ranged p c.requires.p_value in
     let nu = c.requires.whole.1 in
-    let low = c.count_entries-beyond.ensures.taken_counted_2.low c.fewest-g.result (omega (arith, c.if-p-g.false, r.zones_high)) in record { p_value = c.requires.p_value; image_len = (c.requires.whole.0.image_long, c.requires.addresses_len.0, omega (arith, low, addresses_all p r)); z_in_bounds = (nu.rows_long, nu.sealed_long, nu.zones_low) }
+    let low = c.count_entries-beyond.ensures.taken_counted_2.low c.fewest-g.result (omega (arith, c.if-p-g.false, r.zones_high)) in
+    record {
+      p_value = c.requires.p_value;
+      image_len = (c.requires.whole.0.image_long, c.requires.addresses_len.0, omega (arith, low, addresses_all p r));
+      z_in_bounds = (nu.rows_long, nu.sealed_long, nu.zones_low);
+    }
 
 pub returns : goal.returns
 returns c =
@@ -126,7 +149,10 @@ returns c =
     let le = c.fewest-g.ensures in
     let s = c.see_segment-seen.result in
     let h : g < p.Z = omega (arith, c.if-p-g.false) in
-    let t : Told = record { sure = c.is_fewest-sure.result; zone = g; live = get_or used g 0; first = s.first; outside = not (eqb (n.result + get_or used 1024 0) 0) } in record { zone_lt_z = (λ _. h); by_index = λ off sh sure.
+    let t : Told = record { sure = c.is_fewest-sure.result; zone = g; live = get_or used g 0; first = s.first; outside = not (eqb (n.result + get_or used 1024 0) 0) } in record {
+      zone_lt_z = (λ _. h);
+      by_index = λ off sh sure.
           let w = subst (λ (x : Seg). Vouched p (v off) st x tb (p.N * p.Z * capacity p) s) c.row-segment.ensures (c.see_segment-seen.ensures off) in
           looked_seen p (ranged p c.requires.p_value) (v off) tb a.rows.now a.segments.now a.sealed.now sh st g h (le.taken h) used n.ensures.taken_counted_2 le s w c.if-seen-n.false
-          (c.is_fewest-sure.ensures sure) (chosen_of a.rows.now t) refl refl refl refl refl (told-outside (goal.at.returns c).After-count_entries-beyond off sh) }
+          (c.is_fewest-sure.ensures sure) (chosen_of a.rows.now t) refl refl refl refl refl (told-outside (goal.at.returns c).After-count_entries-beyond off sh);
+    }

@@ -52,4 +52,5 @@ returns c =
     let r = t.result in
     λ off sh. subst (λ (s : Seg).
     Looked a.p (view_of a.p off a.image.now a.pointers.now) a.addresses.now (state_of a.bytes.now)
-    (record { zone = r.zone; segment = s; live = r.live; first = r.first; odd = 1024; outside = r.outside })) (sym c.row-segment.ensures) (t.ensures.by_index off sh (not-false r.sure c.if-not-told.false))
+    (record { zone = r.zone; segment = s; live = r.live; first = r.first; odd = 1024; outside = r.outside })) (sym c.row-segment.ensures)
+    (t.ensures.by_index off sh (not-false r.sure c.if-not-told.false))

@@ -27,7 +27,13 @@ pub count_windows-outside-requires : goal.count_windows-outside-requires
 count_windows-outside-requires c =
     let a = c.args in
     let h = c.requires.addresses_len in
-    let n : length {A = ℕ} (replicate 1025 0) ≡ 1025 = length-replicate {A = ℕ} 1025 0 in record { p_value = c.requires.p_value; addresses_len = (h.0, h.1, h.2, subst (λ (x : ℕ). 1024 < x) (sym n) (omega arith)); owners_low = (c.requires.whole.1.owners, none_live a.p a.segments.now a.addresses.now (replicate 1025 0) (λ g l. get_or-replicate 1025 g 0 0 (omega (arith, l)))) }
+    let n : length {A = ℕ} (replicate 1025 0) ≡ 1025 = length-replicate {A = ℕ} 1025 0 in
+    record {
+      p_value = c.requires.p_value;
+      addresses_len = (h.0, h.1, h.2, subst (λ (x : ℕ). 1024 < x) (sym n) (omega arith));
+      owners_low =
+          (c.requires.whole.1.owners, none_live a.p a.segments.now a.addresses.now (replicate 1025 0) (λ g l. get_or-replicate 1025 g 0 0 (omega (arith, l))));
+    }
 
 pub fewest-g-requires : goal.fewest-g-requires
 fewest-g-requires c =
@@ -64,7 +70,18 @@ idle_of-idle-requires c =
     let is = f.ensures.taken l in
     let e = sym c.row-segment.ensures in
     let h = c.requires.addresses_len in
-    let k = w.auto.marks in record { p_value = c.requires.p_value; whole = (c.requires.whole.0, subst (λ (s : Seg). ZonesLow a.p 0 s) e (nu.zones_low g l is), nu.owners.0, subst (λ (s : Seg). Owns a.p a.segments.now g s) e (nu.owned g l is)); addresses_len = (h.0, omega (arith, h.1, k), omega (arith, h.2, k), h.3); marks = λ x. w.ensures.marks (omega (arith, x, k)) }
+    let k = w.auto.marks in record {
+      p_value = c.requires.p_value;
+      whole = (
+        c.requires.whole.0,
+        subst (λ (s : Seg). ZonesLow a.p 0 s) e (nu.zones_low g l is),
+        nu.owners.0,
+        subst (λ (s : Seg). Owns a.p a.segments.now g s) e
+            (nu.owned g l is),
+      );
+      addresses_len = (h.0, omega (arith, h.1, k), omega (arith, h.2, k), h.3);
+      marks = λ x. w.ensures.marks (omega (arith, x, k));
+    }
 
 pub offset_bounds-live-g : goal.offset_bounds-live-g
 offset_bounds-live-g c =

@@ -41,7 +41,11 @@ in_image c =
 pub record_in-record-requires : goal.record_in-record-requires
 record_in-record-requires c =
     let start = c.before.before.before.before.before in
-    let h = c.requires.addresses_len in record { p_value = c.requires.p_value; image_len = (c.requires.whole.0.image_long, h.1, subst (λ (z : ℕ). z < c.args.p.Z) (sym h.2) (zone_there start), h.4) }
+    let h = c.requires.addresses_len in record {
+      p_value = c.requires.p_value;
+      image_len =
+          (c.requires.whole.0.image_long, h.1, subst (λ (z : ℕ). z < c.args.p.Z) (sym h.2) (zone_there start), h.4);
+    }
 
 pub clipped-a-requires : goal.clipped-a-requires
 clipped-a-requires c = omega (arith, (ranged c.args.p c.requires.p_value).addresses_low)
@@ -63,7 +67,8 @@ place_at-there-requires c = omega (arith, c.clipped-a.ensures, c.requires.addres
 pub returns-then-there-q : goal.returns-then-there-q
 returns-then-there-q c =
     let a = c.args in
-    let v : List ℕ → View = λ off. view_of a.p off a.image.now a.pointers.now in record { live_bound = omega arith; by_index = λ off. vouched_skip a.p (v off) (state_of a.bytes.now) a.segment a.addresses.now (a.at + a.o) (a.at + a.o + 1) a.seen (omega arith) }
+    let v : List ℕ → View = λ off. view_of a.p off a.image.now a.pointers.now in
+    record { live_bound = omega arith; by_index = λ off. vouched_skip a.p (v off) (state_of a.bytes.now) a.segment a.addresses.now (a.at + a.o) (a.at + a.o + 1) a.seen (omega arith) }
 
 pub next_idle-first-requires : goal.next_idle-first-requires
 next_idle-first-requires c =
@@ -72,11 +77,15 @@ next_idle-first-requires c =
     let p = a.p in
     let r = ranged p c.requires.p_value in
     let h = c.requires.addresses_len in
-    let q : ℕ = a.at + a.o in record { p_value = c.requires.p_value; whole = c.requires.whole; place_bound = (
-          vouched_low p r a.segment a.drive a.o q h.1 (zone_there start) h.4 (place-there start),
-          data_even p r a.segment a.drive a.o q h.1 (zone_there start) h.4 (place-there start),
-          h.6,
-        ) }
+    let q : ℕ = a.at + a.o in record {
+      p_value = c.requires.p_value;
+      whole = c.requires.whole;
+      place_bound = (
+        vouched_low p r a.segment a.drive a.o q h.1 (zone_there start) h.4 (place-there start),
+        data_even p r a.segment a.drive a.o q h.1 (zone_there start) h.4 (place-there start),
+        h.6,
+      );
+    }
 
 pub overflow_add-result : goal.overflow_add-result
 overflow_add-result c = omega (arith, c.requires.addresses_len.5)
@@ -96,5 +105,8 @@ returns c =
     (sym c.place_at-there.ensures ∙ c.if-there-q.false) in
     let even = data_even p r a.segment a.drive a.o q h.1 (zone_there start) h.4 (place-there start) in
     let s : Idle = record { first = c.next_idle-first.result; odd = 1024 } in
-    let low : q < 4294967295 = omega (arith, in_image start) in record { live_bound = omega arith; by_index = λ off. vouched_step p (v off) st a.segment tb q a.seen (record { live = a.seen.live + 1; first = s.first }) s live even low
-          (step-seen p (v off) st a.segment q a.seen s even refl (c.next_idle-first.ensures off)) refl refl }
+    let low : q < 4294967295 = omega (arith, in_image start) in record {
+      live_bound = omega arith;
+      by_index = λ off. vouched_step p (v off) st a.segment tb q a.seen (record { live = a.seen.live + 1; first = s.first }) s live even low
+          (step-seen p (v off) st a.segment q a.seen s even refl (c.next_idle-first.ensures off)) refl refl;
+    }

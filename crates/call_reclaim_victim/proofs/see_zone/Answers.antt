@@ -20,7 +20,8 @@ place_of-at-requires c =
     let p = c.args.p in
     let r = ranged p c.requires.p_value in
     let h = c.requires.addresses_len in
-    let z = subst (λ (x : ℕ). x < p.Z) (sym c.zone_on-zone.ensures) (low_here p c.args.segment c.args.drive c.requires.whole.1 h.1) in record { p_value = c.requires.p_value; drive_lt_n = (h.1, z, data_below p r 1 r.stripes_low) }
+    let z = subst (λ (x : ℕ). x < p.Z) (sym c.zone_on-zone.ensures) (low_here p c.args.segment c.args.drive c.requires.whole.1 h.1) in
+    record { p_value = c.requires.p_value; drive_lt_n = (h.1, z, data_below p r 1 r.stripes_low) }
 
 pub overflow_cast-at : goal.overflow_cast-at
 overflow_cast-at c = omega arith
@@ -36,7 +37,12 @@ see_block-found-requires c =
     let a = c.args in
     let r = ranged a.p c.requires.p_value in
     let h = c.requires.addresses_len in
-    let i = c.loop-o.invariant in record { p_value = c.requires.p_value; whole = c.requires.whole; addresses_len = (h.0, h.1, c.zone_on-zone.ensures, c.place_of-at.ensures.0, c.loop-o-test.true, omega (arith, i.1, i.0, h.2, h.1, r.drives_high, r.stripes_high), h.3) }
+    let i = c.loop-o.invariant in record {
+      p_value = c.requires.p_value;
+      whole = c.requires.whole;
+      addresses_len =
+          (h.0, h.1, c.zone_on-zone.ensures, c.place_of-at.ensures.0, c.loop-o-test.true, omega (arith, i.1, i.0, h.2, h.1, r.drives_high, r.stripes_high), h.3);
+    }
 
 pub overflow_add-o : goal.overflow_add-o
 overflow_add-o c =
@@ -67,4 +73,9 @@ returns c =
     let ea : at ≡ place_of p a.drive (zone_on a.segment a.drive) 1 = c.place_of-at.ensures.0 ∙ ap (λ (z : ℕ). place_of p a.drive z 1) c.zone_on-zone.ensures in
     let eo : l.o ≡ p.S = omega (arith, c.loop-o-test.false, l.invariant.0) in
     let from : List ℕ → ℕ → Type 0 = λ off x. Vouched p (v off) (state_of a.bytes.now) a.segment a.addresses.now x a.seen in
-    let to : List ℕ → ℕ → Type 0 = λ off x. Vouched p (v off) (state_of a.bytes.now) a.segment a.addresses.now x l.found in record { live_bound = omega (arith, l.invariant.1, l.invariant.0, c.requires.addresses_len.2, r.stripes_high); by_index = λ off z. subst (to off) (ap₂ ◌+◌ ea eo) (l.invariant.2 off (subst (from off) (sym ea) z)) }
+    let to : List ℕ → ℕ → Type 0 = λ off x. Vouched p (v off) (state_of a.bytes.now) a.segment a.addresses.now x l.found in
+    record {
+      live_bound = omega (arith, l.invariant.1, l.invariant.0, c.requires.addresses_len.2, r.stripes_high);
+      by_index = λ off z. subst (to off)
+          (ap₂ ◌+◌ ea eo) (l.invariant.2 off (subst (from off) (sym ea) z));
+    }

@@ -25,4 +25,5 @@ returns c =
     let if1 = c.if-not-in_range in
     let in_range_holds = c.in_range in
     let args = c.args in
-    sym (ap₂ (λ (a b : Bool). not a || not b) (sym in_range_holds.ensures ∙ (not-false in_range_holds.result if1.false-raw)) (names_high args.p args.missing (omega (arith, c.if-missing-p.false))))
+    sym (ap₂ (λ (a b : Bool). not a || not b) (sym in_range_holds.ensures ∙ (not-false in_range_holds.result if1.false-raw))
+    (names_high args.p args.missing (omega (arith, c.if-missing-p.false))))

@@ -46,8 +46,11 @@ pub list_rule-rule-requires : goal.list_rule-rule-requires
 list_rule-rule-requires c =
     let a = c.args in
     let k = mk_disk a.image.now a.pointers.now in
-    let l = c.lent_ok in record { p_value = not-false (in_range a.p) (or_first (not (in_range a.p)) (not (names_drive a.p a.missing)) (sym c.bad_numbers.ensures ∙ c.if-bad_numbers.false)); offline_len = (lengths_of a.p a.offline.now k (mk_memory zero_state a.addresses.now a.compact.now a.inflight.now)
-          (sym (l.ensures zero_state) ∙ not-false l.result c.if-not-lent_ok.false-raw)).offline_ok }
+    let l = c.lent_ok in record {
+      p_value = not-false (in_range a.p) (or_first (not (in_range a.p)) (not (names_drive a.p a.missing)) (sym c.bad_numbers.ensures ∙ c.if-bad_numbers.false));
+      offline_len = (lengths_of a.p a.offline.now k (mk_memory zero_state a.addresses.now a.compact.now a.inflight.now)
+          (sym (l.ensures zero_state) ∙ not-false l.result c.if-not-lent_ok.false-raw)).offline_ok;
+    }
 
 pub returns-then-rule-ne0 : goal.returns-then-rule-ne0
 returns-then-rule-ne0 c =
@@ -65,8 +68,11 @@ pointer_fault-zone-requires c =
     let k = mk_disk a.image.now a.pointers.now in
     let l = c.lent_ok in
     let f = lengths_of a.p a.offline.now k (mk_memory zero_state a.addresses.now a.compact.now a.inflight.now)
-    (sym (l.ensures zero_state) ∙ not-false l.result c.if-not-lent_ok.false-raw) in record { p_value = not-false (in_range a.p) (or_first (not (in_range a.p)) (not (names_drive a.p a.missing)) (sym c.bad_numbers.ensures
-          ∙ c.if-bad_numbers.false)); pointers_len = (f.pointers_ok, f.offline_ok) }
+    (sym (l.ensures zero_state) ∙ not-false l.result c.if-not-lent_ok.false-raw) in record {
+      p_value = not-false (in_range a.p) (or_first (not (in_range a.p)) (not (names_drive a.p a.missing)) (sym c.bad_numbers.ensures
+          ∙ c.if-bad_numbers.false));
+      pointers_len = (f.pointers_ok, f.offline_ok);
+    }
 
 pub returns-then-zone-p : goal.returns-then-zone-p
 returns-then-zone-p c =

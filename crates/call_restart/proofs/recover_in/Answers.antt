@@ -59,11 +59,15 @@ pub gather-requires-2 : goal.gather-requires-2
 gather-requires-2 c =
     let q = c.requires in
     let g = c.gather.ensures in
-    let t = c.settle-t.ensures in record { p_value = q.p_value; whole = (
-          t.whole_is (ap checked c.in_default.is) c.if-t.false,
-          q.whole.1,
-          q.whole.2,
-        ); z_in_bounds = (g.flags_rows.0, g.serials.0, g.left_flags.0, g.keeps.0) }
+    let t = c.settle-t.ensures in record {
+      p_value = q.p_value;
+      whole = (
+        t.whole_is (ap checked c.in_default.is) c.if-t.false,
+        q.whole.1,
+        q.whole.2,
+      );
+      z_in_bounds = (g.flags_rows.0, g.serials.0, g.left_flags.0, g.keeps.0);
+    }
 
 pub load-next-requires : goal.load-next-requires
 load-next-requires c =
@@ -71,7 +75,13 @@ load-next-requires c =
     let g = c.gather-2.ensures in
     let t = c.settle-t.ensures in
     let o = ap checked c.in_default.is in
-    let l = c.if-t.false in record { p_value = q.p_value; whole = t.whole_is o l; addresses_len = q.addresses_len; loading = record { here = q.whole.2; apart = t.apart_is o l; clean = t.good o l; rows_are = g.flags_rows; serials_are = g.serials; kept_are = g.keeps } }
+    let l = c.if-t.false in record {
+      p_value = q.p_value;
+      whole = t.whole_is o l;
+      addresses_len = q.addresses_len;
+      loading =
+          record { here = q.whole.2; apart = t.apart_is o l; clean = t.good o l; rows_are = g.flags_rows; serials_are = g.serials; kept_are = g.keeps };
+    }
 
 pub shape_of-image : goal.shape_of-image
 shape_of-image c =

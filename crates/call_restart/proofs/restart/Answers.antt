@@ -35,7 +35,15 @@ recover-requires c =
     let f = restart_front_passed p (lent_ok_of p a.offline.now k m) v a.missing (segments p v (named a.missing))
     (sym (c.checks-c.ensures a.state) ∙ ap checked c.in_default.is) in
     let l = lengths_of p a.offline.now k m f.lent in
-    let g = c.only_drive-gone.ensures ∙ only-named a.missing in record { p_value = f.in_range_holds; whole = (whole_of p a.offline.now k m f.lent, l.offline_ok, subst (λ (y : ℕ). Here p y) (sym g) (names_here p a.missing f.in_range_holds f.names)); gone_value = subst (λ (y : ℕ). pointer_faults p v y ≡ []) (sym g) f.pointers_ok; addresses_len = (l.addresses_ok, l.compact_ok) }
+    let g = c.only_drive-gone.ensures ∙ only-named a.missing in
+    record {
+      p_value = f.in_range_holds;
+      whole =
+          (whole_of p a.offline.now k m f.lent, l.offline_ok, subst (λ (y : ℕ). Here p y) (sym g) (names_here p a.missing f.in_range_holds f.names));
+      gone_value = subst
+          (λ (y : ℕ). pointer_faults p v y ≡ []) (sym g) f.pointers_ok;
+      addresses_len = (l.addresses_ok, l.compact_ok);
+    }
 
 pub returns : goal.returns
 returns c =

@@ -56,7 +56,15 @@ stores-made-requires c =
     let n : none ≡ first_refusal (rest_checks p v a.gone gs) =
     sym (ap checked c.in_default.is) ∙ y.ensures a.image.now a.pointers.now q.keeps.0 q.serials.0 t x.ensures in
     let z = zone_all p v a.gone x.result x.ensures (rested p v a.gone gs (sym n)).segments_ok in
-    let s = shaped_of p a.offline.now k q.whole.0 (λ i. omega (arith, b.given i)) in record { p_value = q.p_value; whole = (q.whole.0, q.whole.1); keeps = q.keeps; serials = (q.serials.0, t); examined = (x.ensures, z, is_sane p (ranged p q.p_value) a.offline.now a.gone a.count q.whole.2 k q.whole.0 s q.gone_value n) }
+    let s = shaped_of p a.offline.now k q.whole.0 (λ i. omega (arith, b.given i)) in
+    record {
+      p_value = q.p_value;
+      whole = (q.whole.0, q.whole.1);
+      keeps = q.keeps;
+      serials = (q.serials.0, t);
+      examined =
+          (x.ensures, z, is_sane p (ranged p q.p_value) a.offline.now a.gone a.count q.whole.2 k q.whole.0 s q.gone_value n);
+    }
 
 pub returns : goal.returns
 returns c =

@@ -33,7 +33,17 @@ healthy_stores-requires c =
     let v : View = seen p a.offline.now (mk_disk a.image.now a.pointers.now) in
     let z = c.if-gone-ne0.false in
     let s = q.examined in
-    let x = subst (λ (g : ℕ). Examined p v g (segments p v g) a.e) z s.0 in record { p_value = q.p_value; whole = q.whole; keeps = subst (λ (g : ℕ). Keeps p v g a.kept.now × FlagsRows p v g a.rows.now) z q.keeps; serials = subst (λ (g : ℕ). Serials p v g a.serials.now × TakenOfTaken p v g a.marks.now) z q.serials; refit_ready = s.2 z; mend_marks = λ g us. (sym (whole_is p v (segments p v 0) a.e x s.1 g us), rag.ensures ∙ sym (ragged_is p v (segments p v 0) a.e x s.1 g us)) }
+    let x = subst (λ (g : ℕ). Examined p v g (segments p v g) a.e) z s.0 in
+    record {
+      p_value = q.p_value;
+      whole = q.whole;
+      keeps = subst (λ (g : ℕ). Keeps p v g a.kept.now × FlagsRows p v g a.rows.now) z q.keeps;
+      serials = subst
+          (λ (g : ℕ). Serials p v g a.serials.now × TakenOfTaken p v g a.marks.now) z q.serials;
+      refit_ready = s.2 z;
+      mend_marks = λ g us.
+          (sym (whole_is p v (segments p v 0) a.e x s.1 g us), rag.ensures ∙ sym (ragged_is p v (segments p v 0) a.e x s.1 g us));
+    }
 
 pub returns : goal.returns
 returns c =

@@ -129,8 +129,8 @@ module _ (c : Else5) where
 
 pub returns-then-p-address : goal.returns-then-p-address
 returns-then-p-address c =
-    let at_else = c.before.before.before.before in
     let at_else' = c.before.before.before in
+    let at_else = at_else'.before in
     let s = listed at_else in
     write_address_fails s.args.p s.args.offline.now (diskIn s) (memoryIn s) s.args.address.0 s.args.block.now (omega (arith, c.if-p-address.true)) ∙ healthy at_else'
 
@@ -138,12 +138,13 @@ pub room_checks-requires : goal.room_checks-requires
 room_checks-requires c =
     let at_else = c.before.before.before.before.before.before.before.before in
     let s = begun at_else in
-    let l = lent_long_lem s.args.p s.args.offline.now (diskIn s) (memoryIn s) (lent at_else) in record { p_value = ranged at_else; pointers_len = (l.1, l.5); f_value = (s.requires.0, s.requires.1, s.requires.3) }
+    let l = lent_long_lem s.args.p s.args.offline.now (diskIn s) (memoryIn s) (lent at_else) in
+    record { p_value = ranged at_else; pointers_len = (l.1, l.5); f_value = (s.requires.0, s.requires.1, s.requires.3) }
 
 pub returns : goal.returns
 returns c =
-    let at_else = c.before.before.before.before.before.before.before.before.before in
     let at_else' = c.before.before.before.before in
+    let at_else = at_else'.before.before.before.before.before in
     let s = begun at_else in
     let a = s.args in
     c.room_checks.ensures a.image.now a.addresses.now a.compact.now a.inflight.now a.block.now a.address.0

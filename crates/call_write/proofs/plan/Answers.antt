@@ -16,7 +16,8 @@ returns c =
     let n = add-one t in
     let q : record { row = s.result.row; next = s.result.next; inflight = s.new.inflight; drive = s.result.drive }
     ≡ sent_row a.p a.row a.inflight.now a.a.slot a.a.begins a.o.next a.address.0 (suc t) 1 a.block.now =
-    s.ensures ∙ ap (λ (x : ℕ). sent_row a.p a.row a.inflight.now a.a.slot a.a.begins a.o.next a.address.0 x 1 a.block.now) n in record { value = λ j. record {
+    s.ensures ∙ ap (λ (x : ℕ). sent_row a.p a.row a.inflight.now a.a.slot a.a.begins a.o.next a.address.0 x 1 a.block.now) n in record {
+      value = λ j. record {
         answer = Sent (a_stamp (n j)) (q j).row.number (q j).drive;
         stamp = a_stamp (n j);
         serial = a.o.serial;
@@ -24,4 +25,6 @@ returns c =
         next = (q j).next;
         slot = a.a.slot;
         row = (q j).row;
-      }; inflight_after = λ j. (q j).inflight }
+      };
+      inflight_after = λ j. (q j).inflight;
+    }

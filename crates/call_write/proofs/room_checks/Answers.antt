@@ -65,7 +65,8 @@ module _ (c : After-must_wait) where
   counted : (im ad co fl b : List ℕ) (x : ℕ) → from begun im ad co fl b x 7 ≡ from begun im ad co fl b x 6
   counted im ad co fl b x =
       counts_pass begun.args.p begun.args.offline.now (mk_disk im begun.args.pointers.now) (mk_memory (said begun) ad co fl) x b
-      (stamp_is c.before.before.before.before.before.before ∙ c.before.before.before.before.before.if-no_stamp.false) (serial_is c.before.before.before.before ∙ c.before.before.before.if-no_serial.false)
+      (stamp_is c.before.before.before.before.before.before ∙ c.before.before.before.before.before.if-no_stamp.false)
+      (serial_is c.before.before.before.before ∙ c.before.before.before.if-no_serial.false)
 
   full_is : (im : List ℕ) → length im ≡ image_len begun.args.p
       → write_full begun.args.p (seen begun.args.p begun.args.offline.now (mk_disk im begun.args.pointers.now)) (said begun) ≡ c.before.scarce-full.result
@@ -86,8 +87,8 @@ returns-then-no_stamp c =
 
 pub returns-then-no_serial : goal.returns-then-no_serial
 returns-then-no_serial c =
-    let start = c.before.before.before.before.before.before.before.before in
     let at_no_stamp = c.before.before.before.before in
+    let start = at_no_stamp.before.before.before.before in
     λ im ad co fl b x h.
     write_serial_fails c.args.p c.args.offline.now (mk_disk im c.args.pointers.now) (mk_memory (said start) ad co fl) x b
     (stamp_is at_no_stamp ∙ c.if-no_stamp.false) (serial_is c.before.before ∙ c.if-no_serial.true)
@@ -97,7 +98,8 @@ scarce-full-requires c = record { p_value = c.requires.p_value; pointers_len = (
 
 pub must_wait-wait-requires : goal.must_wait-wait-requires
 must_wait-wait-requires c =
-    let start = c.before.before.before.before.before.before.before.before.before.before in record { p_value = c.requires.p_value; a_value = c.requires.f_value.1 ∙ sym (front_aim c.args.p (said start) c.args.f c.requires.f_value.0) }
+    let start = c.before.before.before.before.before.before.before.before.before.before in
+    record { p_value = c.requires.p_value; a_value = c.requires.f_value.1 ∙ sym (front_aim c.args.p (said start) c.args.f c.requires.f_value.0) }
 
 pub returns-then-full : goal.returns-then-full
 returns-then-full c = λ im ad co fl b x h.

@@ -85,29 +85,35 @@ checked-is c =
 
 pub returns-in-Fail : goal.returns-in-Fail
 returns-in-Fail c =
-    let start' = c.before.before.before.before.before.before.before.before.before.before.before.before.before.before in
     let at_checks = c.before.before.before in
+    let start' = at_checks.before.before.before.before.before.before.before.before.before.before.before in
     let a = c.args in
     write_refused a.p a.offline.now (disk start') (memory start') a.address.0 a.block.now a.count c.requires.2 c.kept.result
     (sym (checked-is at_checks) ∙ ap checked c.in-Fail.is ∙ ap (λ (x : Change). some x.answer) (sym c.kept.ensures))
 
 pub open-o-requires : goal.open-o-requires
 open-o-requires c =
-    let start' = c.before.before.before.before.before.before.before.before.before.before.before.before.before.before.before in
     let at_checks = c.before.before.before.before in
-    let at_aim_of = c.before.before.before.before.before in
+    let at_aim_of = at_checks.before in
+    let start' = at_aim_of.before.before.before.before.before.before.before.before.before.before in
     let g = c.aim_of-a in
     let f = c.front_of-f in
     let a = c.args in
     let none! : write_refusal a.p a.offline.now (disk start') (memory start') a.address.0 a.block.now ≡ none = sym (checked-is at_checks) ∙ ap checked c.in_default.is in
-    let r = write_ready a.p a.offline.now (disk start') (memory start') a.address.0 a.block.now none! in record { p_value = r.ranged; whole = (r.whole, r.offline_long); opens_value = ap (λ (x : Aim). x.opens) g.ensures; serial_lt_last_count = λ e.
-                subst (λ (x : Front). x.serial.0 < last_count) (sym f.ensures)
-                (lt_of_le-ne (serial_fits start') (r.serial_left (ap (λ (x : Aim). x.opens) (sym (aimed at_aim_of)) ∙ e))); nonzero = λ e. r.empties }
+    let r = write_ready a.p a.offline.now (disk start') (memory start') a.address.0 a.block.now none! in record {
+      p_value = r.ranged;
+      whole = (r.whole, r.offline_long);
+      opens_value = ap (λ (x : Aim). x.opens) g.ensures;
+      serial_lt_last_count = λ e.
+          subst (λ (x : Front). x.serial.0 < last_count) (sym f.ensures)
+          (lt_of_le-ne (serial_fits start') (r.serial_left (ap (λ (x : Aim). x.opens) (sym (aimed at_aim_of)) ∙ e)));
+      nonzero = λ e. r.empties;
+    }
 
 pub returns-then-o : goal.returns-then-o
 returns-then-o c =
-    let start' = c.before.before.before.before.before.before.before.before.before.before.before.before.before.before.before.before.before.before.before.before.before.before.before.before.before.before.before.before in
     let at_checks = c.before.before.before.before.before.before.before.before.before.before.before.before.before.before.before.before.before in
+    let start' = at_checks.before.before.before.before.before.before.before.before.before.before.before in
     let q = c.cut in
     let if1 = c.if-o in
     let front_of =
@@ -124,9 +130,9 @@ returns-then-o c =
 
 pub row_at-row-requires : goal.row_at-row-requires
 row_at-row-requires c =
-    let start' = c.before.before.before.before.before.before.before.before.before.before.before.before.before.before.before.before.before.before.before.before.before in
     let at_checks = c.before.before.before.before.before.before.before.before.before.before in
-    let at_aim_of = c.before.before.before.before.before.before.before.before.before.before.before in
+    let at_aim_of = at_checks.before in
+    let start' = at_aim_of.before.before.before.before.before.before.before.before.before.before in
     let a = c.args in
     let none! : write_refusal a.p a.offline.now (disk start') (memory start') a.address.0 a.block.now ≡ none = sym (checked-is at_checks) ∙ ap checked c.in_default.is in (
       c.requires.1,
@@ -141,15 +147,15 @@ row_is :
     c.before.before.before.before.before.before.before.before.before.before.before.aim_of-a.result.slot
 row_is c =
     let at_aim_of_a = c.before.before.before.before.before.before.before.before.before.before.before in
-    let start' = c.before.before.before.before.before.before.before.before.before.before.before.before.before.before.before.before.before.before.before.before.before in
+    let start' = at_aim_of_a.before.before.before.before.before.before.before.before.before.before in
     let aim-of = at_aim_of_a.aim_of-a in
     subst (λ (x : State). c.row_at-row.result ≡ slot_row x aim-of.result.slot) (sym start'.requires.0) c.row_at-row.ensures
 
 pub plan-requires : goal.plan-requires
 plan-requires c =
-    let start' = c.before.before.before.before.before.before.before.before.before.before.before.before.before.before.before.before.before.before.before.before.before.before.before in
     let at_checks = c.before.before.before.before.before.before.before.before.before.before.before.before in
-    let at_aim_of = c.before.before.before.before.before.before.before.before.before.before.before.before.before in
+    let at_aim_of = at_checks.before in
+    let start' = at_aim_of.before.before.before.before.before.before.before.before.before.before in
     let aim-of = c.aim_of-a in
     let f = c.front_of-f in
     let a = c.args in
@@ -159,15 +165,19 @@ plan-requires c =
     let k' : Disk = mk_disk o.new.image o.new.pointers in
     let h : OpeningStores a.p a.offline.now a.state a.count (disk start') o.result k' =
     opening_front a.p a.offline.now a.state a.count (disk start') o.result k'
-    (subst (λ (x : Front). OpeningStores a.p a.offline.now (behind x) a.count (disk start') o.result k') f.ensures o.ensures) in record { p_value = r.ranged; slot_bound = plan_asks a.p a.offline.now (disk start') (memory start') a.address.0 a.block.now a.count c.requires.2 none! o.result k' h f.result f.ensures aim-of.result (aimed at_aim_of)
-            c.row_at-row.result (row_is c.before.before) (stamp_fits start'); inflight_len = (r.inflight_long, r.block_long) }
+    (subst (λ (x : Front). OpeningStores a.p a.offline.now (behind x) a.count (disk start') o.result k') f.ensures o.ensures) in record {
+      p_value = r.ranged;
+      slot_bound = plan_asks a.p a.offline.now (disk start') (memory start') a.address.0 a.block.now a.count c.requires.2 none! o.result k' h f.result f.ensures aim-of.result (aimed at_aim_of)
+          c.row_at-row.result (row_is c.before.before) (stamp_fits start');
+      inflight_len = (r.inflight_long, r.block_long);
+    }
 
 pub returns : goal.returns
 returns c =
-    let start' = c.before.before.before.before.before.before.before.before.before.before.before.before.before.before.before.before.before.before.before.before.before.before.before.before.before.before in
-    let at_checks = c.before.before.before.before.before.before.before.before.before.before.before.before.before.before.before in
-    let at_aim_of = c.before.before.before.before.before.before.before.before.before.before.before.before.before.before.before.before in
     let at_row_at = c.before.before.before.before.before in
+    let at_checks = at_row_at.before.before.before.before.before.before.before.before.before.before in
+    let at_aim_of = at_checks.before in
+    let start' = at_aim_of.before.before.before.before.before.before.before.before.before.before in
     let q = c.plan in
     let row_at = c.row_at-row in
     let if1 = c.if-o in

@@ -15,7 +15,8 @@ use Rattle.disk_code.proofs.add_data.Given as goal
 
 abbrev pub invariant-loop-k : goal.invariant-loop-k
 invariant-loop-k l =
-    (1 ≤ l.k) × (l.k ≤ l.n) × (length l.inflight ≡ length l.initial.inflight) × (l.inflight ≡ splice l.initial.inflight (slot_byte l.p l.slot (parity_drive l.p l.stripe)) (data_parity l.p l.initial.inflight l.slot l.stripe l.k))
+    (1 ≤ l.k) × (l.k ≤ l.n) × (length l.inflight ≡ length l.initial.inflight)
+    × (l.inflight ≡ splice l.initial.inflight (slot_byte l.p l.slot (parity_drive l.p l.stripe)) (data_parity l.p l.initial.inflight l.slot l.stripe l.k))
 
 abbrev pub decreases-loop-k : goal.decreases-loop-k
 decreases-loop-k l = l.n - l.k

@@ -59,7 +59,8 @@ add_data-requires c =
     let f = data-byte.ensures.0 in
     let k : 0 < data_count p = omega (arith, data_count-low p r) in
     let fl' : copy_within.new.buf ≡ splice fl (slot_byte p a.slot (parity_drive p a.stripe)) (part (slot_byte p a.slot (data_drive p a.stripe 0)) p.B fl) =
-    copy_within.ensures ∙ ap₂ (λ (x y : ℕ). splice fl x (part y p.B fl)) at f in record { p_value = pre.p_value; slot_bound = (h.0, copy_within.auto.buf ∙ h.1, parity-copied p fl a.slot a.stripe (omega (arith, r.drives_low)) h.0 h.1 k copy_within.new.buf fl') }
+    copy_within.ensures ∙ ap₂ (λ (x y : ℕ). splice fl x (part y p.B fl)) at f in
+    record { p_value = pre.p_value; slot_bound = (h.0, copy_within.auto.buf ∙ h.1, parity-copied p fl a.slot a.stripe (omega (arith, r.drives_low)) h.0 h.1 k copy_within.new.buf fl') }
 
 pub returns : goal.returns
 returns c =

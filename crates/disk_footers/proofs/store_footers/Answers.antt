@@ -30,7 +30,8 @@ write_footers-requires c =
     let r = ranged p pre.p_value in
     let w = pre.whole in
     let h = pre.drive_lt_n in
-    let n : c.pointer-at.result ≡ pointer_of p a.pointers.now a.drive a.zone = c.pointer-at.ensures in record { p_value = pre.p_value; image_len = (w.image_long, h.0, h.1, h.3, omega (arith, n, h.4)) }
+    let n : c.pointer-at.result ≡ pointer_of p a.pointers.now a.drive a.zone = c.pointer-at.ensures in
+    record { p_value = pre.p_value; image_len = (w.image_long, h.0, h.1, h.3, omega (arith, n, h.4)) }
 
 pub clear_spares-requires : goal.clear_spares-requires
 clear_spares-requires c =
@@ -42,7 +43,8 @@ clear_spares-requires c =
     let r = ranged p pre.p_value in
     let w = pre.whole in
     let h = pre.drive_lt_n in
-    let n : pointer.result ≡ pointer_of p a.pointers.now a.drive a.zone = pointer.ensures in record { p_value = pre.p_value; image_len = (write-footers.auto.image ∙ w.image_long, h.0, h.1, omega (arith, n, h.4)) }
+    let n : pointer.result ≡ pointer_of p a.pointers.now a.drive a.zone = pointer.ensures in
+    record { p_value = pre.p_value; image_len = (write-footers.auto.image ∙ w.image_long, h.0, h.1, omega (arith, n, h.4)) }
 
 pub pointer_byte-byte-requires : goal.pointer_byte-byte-requires
 pointer_byte-byte-requires c =

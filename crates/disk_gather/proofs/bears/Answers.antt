@@ -26,7 +26,11 @@ returns-then-not-is_used c =
 pub serial_here-s-requires : goal.serial_here-s-requires
 serial_here-s-requires c =
     let a = c.args in
-    let q = c.requires in record { p_value = q.p_value; p_in_bounds = found_header_room a.p a.drive a.zone a.at a.image.now (ranged a.p q.p_value) q.drive_lt_n.0 q.drive_lt_n.1 q.drive_lt_n.2 q.whole.0.image_long }
+    let q = c.requires in record {
+      p_value = q.p_value;
+      p_in_bounds = found_header_room a.p a.drive a.zone a.at a.image.now (ranged a.p q.p_value) q.drive_lt_n.0
+          q.drive_lt_n.1 q.drive_lt_n.2 q.whole.0.image_long;
+    }
 
 pub returns : goal.returns
 unfolding bears_at

@@ -15,7 +15,13 @@ pub chain_present-requires : goal.chain_present-requires
 chain_present-requires c =
     let q = c.requires in
     let l = c.loop-d in
-    let h = q.mask_bound in record { p_value = q.p_value; whole = q.whole; drive_lt_n = (c.loop-d-test.true, h.0, omega (arith, l.invariant.1, h.1), omega (arith, l.invariant.2, h.2)); blank = (l.invariant.3, l.invariant.4) }
+    let h = q.mask_bound in record {
+      p_value = q.p_value;
+      whole = q.whole;
+      drive_lt_n =
+          (c.loop-d-test.true, h.0, omega (arith, l.invariant.1, h.1), omega (arith, l.invariant.2, h.2));
+      blank = (l.invariant.3, l.invariant.4);
+    }
 
 pub overflow_add-d : goal.overflow_add-d
 overflow_add-d c = omega arith

@@ -21,7 +21,8 @@ overflow_sub-z c =
 pub block_byte-requires : goal.block_byte-requires
 block_byte-requires c =
     let r = ranged c.args.p c.requires.p_value in
-    let k : 0 < capacity c.args.p = let x = capacity-low c.args.p r in omega (arith, x) in record { p_value = c.requires.p_value; drive_lt_n = (c.requires.drive_lt_n.0, omega (arith, r.zones_low), k) }
+    let k : 0 < capacity c.args.p = let x = capacity-low c.args.p r in omega (arith, x) in
+    record { p_value = c.requires.p_value; drive_lt_n = (c.requires.drive_lt_n.0, omega (arith, r.zones_low), k) }
 
 pub overflow_add-at : goal.overflow_add-at
 overflow_add-at c = omega (arith, c.block_byte.ensures.2, c.zone_len-step.ensures.1)
@@ -54,7 +55,15 @@ chain_zone-requires c =
     let k = q.drive_lt_n in
     let h = c.loop-z-test.true in
     let v = view_of a.p a.offline.now a.image.now a.pointers.now in
-    let e : l.z ≡ l.z - 1 + 1 = omega (arith, h) in record { p_value = q.p_value; whole = q.whole; drive_lt_n = (k.0, omega (arith, h, l.invariant.0), omega (arith, l.invariant.3, head_back a.p a.drive l.z h, c.zone_len-step.ensures.0), k.1); z_in_bounds = (omega (arith, l.invariant.1, k.2), omega (arith, l.invariant.2, k.3), subst (λ (n : ℕ). Chained a.p v a.mask a.drive n l.heads l.links) e l.invariant.4) }
+    let e : l.z ≡ l.z - 1 + 1 = omega (arith, h) in
+    record {
+      p_value = q.p_value;
+      whole = q.whole;
+      drive_lt_n =
+          (k.0, omega (arith, h, l.invariant.0), omega (arith, l.invariant.3, head_back a.p a.drive l.z h, c.zone_len-step.ensures.0), k.1);
+      z_in_bounds =
+          (omega (arith, l.invariant.1, k.2), omega (arith, l.invariant.2, k.3), subst (λ (n : ℕ). Chained a.p v a.mask a.drive n l.heads l.links) e l.invariant.4);
+    }
 
 pub loop-z-smaller : goal.loop-z-smaller
 loop-z-smaller c = omega (arith, c.loop-z-test.true)

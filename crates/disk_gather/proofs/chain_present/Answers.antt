@@ -17,7 +17,12 @@ returns-then-has_drive c =
     let a = c.args in
     let p = a.p in
     let h = c.requires.blank in
-    let v = view_of p a.offline.now a.image.now a.pointers.now in record { blank_2 = blank_next p v a.gone a.mask a.drive a.heads.now a.links.now h.0; chained_to = chain_gone p v a.gone a.mask a.drive a.heads.now a.links.now (sym c.has_drive.ensures ∙ c.if-has_drive.true) h.1 }
+    let v = view_of p a.offline.now a.image.now a.pointers.now in
+    record {
+      blank_2 = blank_next p v a.gone a.mask a.drive a.heads.now a.links.now h.0;
+      chained_to = chain_gone p v a.gone a.mask a.drive a.heads.now a.links.now
+          (sym c.has_drive.ensures ∙ c.if-has_drive.true) h.1;
+    }
 
 pub overflow_add-n : goal.overflow_add-n
 overflow_add-n c =
@@ -76,8 +81,13 @@ chain_drive-requires c =
     let v = view_of p a.offline.now a.image.now a.pointers.now in
     let k = chain_room p a.mask a.drive (ranged p q.p_value) q.drive_lt_n.0 q.drive_lt_n.1 in
     let h = length_lent (a.drive * p.Z) p.Z a.heads.now (omega (arith, k.0, q.drive_lt_n.2)) in
-    let l = length_lent (a.drive * w) w a.links.now (omega (arith, k.2, q.drive_lt_n.3)) in record { p_value = q.p_value; whole = q.whole; drive_lt_n = (q.drive_lt_n.0, q.drive_lt_n.1, omega (arith, h), omega (arith, l)); by_index = (λ b x. subst (λ (m : List ℕ). 1024 ≤ get_or m b 0) (sym (part_lent (a.drive * w) w a.links.now))
-              (blank_part p v a.gone a.mask a.drive a.heads.now a.links.now q.drive_lt_n.0 q.blank.0 b x)) }
+    let l = length_lent (a.drive * w) w a.links.now (omega (arith, k.2, q.drive_lt_n.3)) in record {
+      p_value = q.p_value;
+      whole = q.whole;
+      drive_lt_n = (q.drive_lt_n.0, q.drive_lt_n.1, omega (arith, h), omega (arith, l));
+      by_index = (λ b x. subst (λ (m : List ℕ). 1024 ≤ get_or m b 0) (sym (part_lent (a.drive * w) w a.links.now))
+          (blank_part p v a.gone a.mask a.drive a.heads.now a.links.now q.drive_lt_n.0 q.blank.0 b x));
+    }
 
 pub shape_of-heads : goal.shape_of-heads
 shape_of-heads c =
@@ -131,5 +141,8 @@ returns c =
     let f = sym (splice_lent (a.drive * p.Z) p.Z a.heads.now s ns) in
     let g = sym (splice_lent (a.drive * w) w a.links.now t nt) in
     let u = q.drive_lt_n in
-    let y = q.blank in record { blank_2 = subst (Blank p a.mask (a.drive + 1)) g (blank_more p v a.gone a.mask a.drive a.heads.now a.links.now s t u.0 u.2 u.3 ns nt y.0); chained_to = chain_same p v a.gone a.mask (a.drive + 1) (splice a.heads.now (a.drive * p.Z) s) _ (splice a.links.now (a.drive * w) t) _ f g
-          (chain_more p v a.gone a.mask a.drive a.heads.now a.links.now s t u.0 u.2 u.3 ns nt i.ensures y.1) }
+    let y = q.blank in record {
+      blank_2 = subst (Blank p a.mask (a.drive + 1)) g (blank_more p v a.gone a.mask a.drive a.heads.now a.links.now s t u.0 u.2 u.3 ns nt y.0);
+      chained_to = chain_same p v a.gone a.mask (a.drive + 1) (splice a.heads.now (a.drive * p.Z) s) _ (splice a.links.now (a.drive * w) t) _ f g
+          (chain_more p v a.gone a.mask a.drive a.heads.now a.links.now s t u.0 u.2 u.3 ns nt i.ensures y.1);
+    }

@@ -26,7 +26,8 @@ zone_len-step-requires c =
 pub block_byte-at-requires : goal.block_byte-at-requires
 block_byte-at-requires c =
     let r = ranged c.args.p c.requires.p_value in
-    let k : 0 < capacity c.args.p = let x = capacity-low c.args.p r in omega (arith, x) in record { p_value = c.requires.p_value; drive_lt_n = (c.low_drive-low.ensures.1, omega (arith, r.zones_low), k) }
+    let k : 0 < capacity c.args.p = let x = capacity-low c.args.p r in omega (arith, x) in
+    record { p_value = c.requires.p_value; drive_lt_n = (c.low_drive-low.ensures.1, omega (arith, r.zones_low), k) }
 
 pub loop-z-init : goal.loop-z-init
 loop-z-init c = (omega arith, refl, c.block_byte-at.ensures.0, λ off ps h x j l. absurd (let q : ⊥ = omega (arith, l) in q))
@@ -35,7 +36,11 @@ pub serial_here-s-requires : goal.serial_here-s-requires
 serial_here-s-requires c =
     let a = c.args in
     let l = c.loop-z in
-    let low = c.low_drive-low in record { p_value = c.requires.p_value; p_in_bounds = found_header_room a.p low.result l.z l.at a.image.now (ranged a.p c.requires.p_value) low.ensures.1 c.loop-z-test.true l.invariant.2 c.requires.image_len.0 }
+    let low = c.low_drive-low in record {
+      p_value = c.requires.p_value;
+      p_in_bounds = found_header_room a.p low.result l.z l.at a.image.now
+          (ranged a.p c.requires.p_value) low.ensures.1 c.loop-z-test.true l.invariant.2 c.requires.image_len.0;
+    }
 
 pub is_repeated-requires : goal.is_repeated-requires
 is_repeated-requires c =
@@ -77,7 +82,8 @@ loop-z-preserved c =
           let f : ℕ → Bool = λ s. any (λ d. leb 2 (length (bearing p v d s))) (present p a.gone) in
           let e = c.serial_here-s.ensures ∙ serial_bytes p off im ps c.requires.image_len.0 k low.result l.z low.ensures.1 h (ranged p c.requires.p_value) l.at l.invariant.2
           ∙ ap (λ (d : ℕ). serial_in p v d l.z) low.ensures.0 in
-          set_more l.out l.z r.result false (λ j. f (serial_in p v (low_drive p a.gone) j)) (omega (arith, l.invariant.1, h, c.requires.z_in_bounds)) (l.invariant.3 off ps k x) (r.ensures v x ∙ ap f e),
+          set_more l.out l.z r.result false (λ j. f (serial_in p v (low_drive p a.gone) j)) (omega (arith, l.invariant.1, h, c.requires.z_in_bounds))
+          (l.invariant.3 off ps k x) (r.ensures v x ∙ ap f e),
     )
 
 pub shape_of-out : goal.shape_of-out

@@ -11,7 +11,12 @@ offline_len-requires c =
 pub gather_small-requires : goal.gather_small-requires
 unfolding offline_len
 gather_small-requires c =
-    let q = c.requires in record { p_value = q.p_value; whole = (q.whole.0, q.whole.1, q.whole.2, omega (arith, c.if-offline_len-le-FEW_ZONES.true, c.offline_len.ensures.0)); z_in_bounds = q.z_in_bounds }
+    let q = c.requires in record {
+      p_value = q.p_value;
+      whole =
+          (q.whole.0, q.whole.1, q.whole.2, omega (arith, c.if-offline_len-le-FEW_ZONES.true, c.offline_len.ensures.0));
+      z_in_bounds = q.z_in_bounds;
+    }
 
 pub gather_large-requires : goal.gather_large-requires
 gather_large-requires c =

@@ -76,4 +76,9 @@ shape_of-left c = c.loop-z.invariant.2
 pub returns : goal.returns
 returns c =
     let q = c.requires in
-    let l = c.loop-z in record { by_index = (λ off ps long t s. (omega (arith, l.invariant.1, q.here.2), λ j x y. l.invariant.3 off ps long t s j (omega (arith, x, c.loop-z-test.false)) y)); by_index_2 = (λ off ps long t s. (omega (arith, l.invariant.2, q.here.3), λ j x. l.invariant.4 off ps long t s j (omega (arith, x, c.loop-z-test.false)))) }
+    let l = c.loop-z in record {
+      by_index = (λ off ps long t s.
+          (omega (arith, l.invariant.1, q.here.2), λ j x y. l.invariant.3 off ps long t s j (omega (arith, x, c.loop-z-test.false)) y));
+      by_index_2 =
+          (λ off ps long t s. (omega (arith, l.invariant.2, q.here.3), λ j x. l.invariant.4 off ps long t s j (omega (arith, x, c.loop-z-test.false))));
+    }

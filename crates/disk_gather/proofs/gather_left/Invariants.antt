@@ -19,9 +19,11 @@ use Rattle.disk_gather.proofs.gather_left.Given as goal
 abbrev pub invariant-loop-z : goal.invariant-loop-z
 invariant-loop-z l =
     (l.z ≤ l.p.Z) × (length l.rows ≡ length l.initial.rows) × (length l.left ≡ length l.initial.left)
-    × ((off ps : List ℕ) → length ps ≡ pointers_len l.p → ChainedTo l.p (view_of l.p off l.image ps) l.gone l.mask l.p.N l.heads l.links → Serials l.p (view_of l.p off l.image ps) l.gone l.serials
+    × ((off ps : List ℕ) → length ps ≡ pointers_len l.p → ChainedTo l.p (view_of l.p off l.image ps) l.gone l.mask l.p.N l.heads l.links
+    → Serials l.p (view_of l.p off l.image ps) l.gone l.serials
     → (j : ℕ) → j < l.z → leads l.p (view_of l.p off l.image ps) (low_drive l.p l.gone) j ≡ true → part (8 * j) 8 l.rows ≡ (seg_at l.p (view_of l.p off l.image ps) l.gone j).zones)
-    × ((off ps : List ℕ) → length ps ≡ pointers_len l.p → ChainedTo l.p (view_of l.p off l.image ps) l.gone l.mask l.p.N l.heads l.links → Serials l.p (view_of l.p off l.image ps) l.gone l.serials
+    × ((off ps : List ℕ) → length ps ≡ pointers_len l.p → ChainedTo l.p (view_of l.p off l.image ps) l.gone l.mask l.p.N l.heads l.links
+    → Serials l.p (view_of l.p off l.image ps) l.gone l.serials
     → (j : ℕ) → j < l.z → get_or l.left j false ≡ left_at l.p (view_of l.p off l.image ps) l.gone j)
 
 abbrev pub decreases-loop-z : goal.decreases-loop-z

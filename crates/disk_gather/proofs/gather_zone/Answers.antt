@@ -35,13 +35,16 @@ returns-then-lowest_on-z c =
     let h = c.requires.here in
     let low = low_drive p a.gone in
     let n = c.lowest_on in
-    let here = ap (is_in a.gone) h.2 ∙ h.0.1 in record { by_index = (λ off ps long x e.
+    let here = ap (is_in a.gone) h.2 ∙ h.0.1 in record {
+      by_index = (λ off ps long x e.
           let v = view_of p off a.image.now ps in
           let no = lead_found p v low a.low a.z a.serial.0 n.result h.2 h.3 e (n.ensures.value v a.gone here x) ∙ ne_eqb n.result a.z c.if-lowest_on-z.true in
-          sym (and_false_left (leads p v low a.z) (all (λ d. ltb (zone_on (seg_at p v a.gone a.z) d) p.Z) (present p a.gone)) no)); by_index_2 = (λ off ps long x e.
+          sym (and_false_left (leads p v low a.z) (all (λ d. ltb (zone_on (seg_at p v a.gone a.z) d) p.Z) (present p a.gone)) no));
+      by_index_2 = (λ off ps long x e.
           let v = view_of p off a.image.now ps in
           let no = lead_found p v low a.low a.z a.serial.0 n.result h.2 h.3 e (n.ensures.value v a.gone here x) ∙ ne_eqb n.result a.z c.if-lowest_on-z.true in
-          sym (cond_false (leads p v low a.z) (splice a.rows.now (8 * a.z) (seg_at p v a.gone a.z).zones) a.rows.now no)) }
+          sym (cond_false (leads p v low a.z) (splice a.rows.now (8 * a.z) (seg_at p v a.gone a.z).zones) a.rows.now no));
+    }
 
 pub seg_in-segment-requires : goal.seg_in-segment-requires
 seg_in-segment-requires c =
@@ -71,15 +74,18 @@ returns c =
     let yes = c.if-lowest_on-z.false in
     let seg = c.seg_in-segment in
     let here = ap (is_in a.gone) h.2 ∙ h.0.1 in
-    let on : Seg → Bool = λ x. all (λ d. ltb (zone_on x d) p.Z) (present p a.gone) in record { by_index = (λ off ps long x e.
+    let on : Seg → Bool = λ x. all (λ d. ltb (zone_on x d) p.Z) (present p a.gone) in record {
+      by_index = (λ off ps long x e.
           let v = view_of p off a.image.now ps in
           let f = n.ensures.value v a.gone here x in
           let l : leads p v low a.z ≡ true = lead_found p v low a.low a.z a.serial.0 n.result h.2 h.3 e f ∙ eq-eqb n.result a.z yes in
           let q = seg.ensures off ps long x (sym yes ∙ f) ∙ seg_is p v a.gone a.z a.serial.0 e in
-          c.on_all.ensures ∙ ap on q ∙ sym (ap (λ (b : Bool). b && on (seg_at p v a.gone a.z)) l)); by_index_2 = (λ off ps long x e.
+          c.on_all.ensures ∙ ap on q ∙ sym (ap (λ (b : Bool). b && on (seg_at p v a.gone a.z)) l));
+      by_index_2 = (λ off ps long x e.
           let v = view_of p off a.image.now ps in
           let f = n.ensures.value v a.gone here x in
           let l : leads p v low a.z ≡ true = lead_found p v low a.low a.z a.serial.0 n.result h.2 h.3 e f ∙ eq-eqb n.result a.z yes in
           let q = seg.ensures off ps long x (sym yes ∙ f) ∙ seg_is p v a.gone a.z a.serial.0 e in
           c.put_row.ensures ∙ ap (λ (x : Seg). splice a.rows.now (8 * a.z) x.zones) q
-          ∙ sym (cond_true (leads p v low a.z) (splice a.rows.now (8 * a.z) (seg_at p v a.gone a.z).zones) a.rows.now l)) }
+          ∙ sym (cond_true (leads p v low a.z) (splice a.rows.now (8 * a.z) (seg_at p v a.gone a.z).zones) a.rows.now l));
+    }

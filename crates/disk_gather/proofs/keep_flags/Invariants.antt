@@ -17,7 +17,8 @@ use Rattle.disk_gather.proofs.keep_flags.Given as goal
 abbrev pub invariant-loop-z : goal.invariant-loop-z
 invariant-loop-z l =
     (l.z ≤ l.p.Z) × (length l.out ≡ length l.initial.out)
-    × ((off ps : List ℕ) → length ps ≡ pointers_len l.p → Here l.p l.gone → ChainedTo l.p (view_of l.p off l.image ps) l.gone l.mask l.p.N l.heads l.links → LeftFlags l.p (view_of l.p off l.image ps) l.gone l.flags
+    × ((off ps : List ℕ) → length ps ≡ pointers_len l.p → Here l.p l.gone → ChainedTo l.p (view_of l.p off l.image ps) l.gone l.mask l.p.N l.heads l.links
+    → LeftFlags l.p (view_of l.p off l.image ps) l.gone l.flags
     → (j : ℕ) → j < l.z → get_or l.out j false ≡ remains_at l.p (view_of l.p off l.image ps) l.gone j)
 
 abbrev pub decreases-loop-z : goal.decreases-loop-z

@@ -23,4 +23,8 @@ returns c =
     let a = c.args in
     let b = bit_and a.serial.0 a.mask in
     let e = c.wide16.ensures.0 ∙ ap (λ (k : ℕ). get_or a.links.now k 0) c.bucket-b.ensures.0 in
-    let h = subst (λ (k : ℕ). k ≤ a.mask) c.bucket-b.ensures.0 c.bucket-b.ensures.1 in record { nearest = (λ v d x. c.walk.ensures.nearest v d 0 (omega arith) x (subst (Nearest (in_bucket a.p v a.mask d b) a.p.Z 0) (sym e) (x.firsts b h))); upper_bound = c.walk.ensures.upper_bound }
+    let h = subst (λ (k : ℕ). k ≤ a.mask) c.bucket-b.ensures.0 c.bucket-b.ensures.1 in
+    record {
+      nearest = (λ v d x. c.walk.ensures.nearest v d 0 (omega arith) x (subst (Nearest (in_bucket a.p v a.mask d b) a.p.Z 0) (sym e) (x.firsts b h)));
+      upper_bound = c.walk.ensures.upper_bound;
+    }

@@ -61,12 +61,16 @@ lowest_in-requires c =
     let w = a.mask + 1 + p.Z in
     let k = chain_room p a.mask a.drive (ranged p c.requires.p_value) c.requires.drive_lt_n.0 c.requires.drive_lt_n.1 in
     let h = length_lent (a.drive * p.Z) p.Z a.heads.now (omega (arith, k.0, c.requires.drive_lt_n.2)) in
-    let l = length_lent (a.drive * w) w a.links.now (omega (arith, k.2, c.requires.drive_lt_n.3)) in record { p_value = c.requires.p_value; mask_bound = (c.requires.drive_lt_n.1, omega (arith, h), omega (arith, l)) }
+    let l = length_lent (a.drive * w) w a.links.now (omega (arith, k.2, c.requires.drive_lt_n.3)) in
+    record { p_value = c.requires.p_value; mask_bound = (c.requires.drive_lt_n.1, omega (arith, h), omega (arith, l)) }
 
 pub returns : goal.returns
 returns c =
     let a = c.args in
     let p = a.p in
-    let w = a.mask + 1 + p.Z in record { value = (λ v gone q x. nearest_lowest p v a.drive a.serial.0 c.lowest_in.result
+    let w = a.mask + 1 + p.Z in record {
+      value = (λ v gone q x. nearest_lowest p v a.drive a.serial.0 c.lowest_in.result
           (c.lowest_in.ensures.nearest v a.drive (chain_lent p v a.mask a.drive (a.drive * p.Z) (a.drive * w) w a.heads.now a.links.now (x a.drive c.requires.drive_lt_n.0 q)))
-          c.lowest_in.ensures.upper_bound); upper_bound = c.lowest_in.ensures.upper_bound }
+          c.lowest_in.ensures.upper_bound);
+      upper_bound = c.lowest_in.ensures.upper_bound;
+    }

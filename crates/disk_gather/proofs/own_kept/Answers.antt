@@ -28,11 +28,15 @@ row-segment-requires c =
     (omega (arith, c.requires.z_in_bounds), omega (arith, c.requires.z_in_bounds, (ranged c.args.p c.requires.p_value).zones_high))
 
 pub own_zones-requires : goal.own_zones-requires
-own_zones-requires c = record { p_value = c.requires.p_value; z_in_bounds = (
-        c.requires.z_in_bounds.2,
-        subst (λ (s : Seg). ZonesLow c.args.p 0 s) (sym c.row-segment.ensures) (c.requires.z_in_bounds.3 c.args.g c.requires.z_in_bounds.4 (not-false (get_or c.args.kept.now c.args.g false) c.if-not-kept-g.false-raw)),
-        omega (arith, c.requires.z_in_bounds, (ranged c.args.p c.requires.p_value).zones_high),
-      ) }
+own_zones-requires c = record {
+  p_value = c.requires.p_value;
+  z_in_bounds = (
+    c.requires.z_in_bounds.2,
+    subst (λ (s : Seg). ZonesLow c.args.p 0 s) (sym c.row-segment.ensures)
+        (c.requires.z_in_bounds.3 c.args.g c.requires.z_in_bounds.4 (not-false (get_or c.args.kept.now c.args.g false) c.if-not-kept-g.false-raw)),
+    omega (arith, c.requires.z_in_bounds, (ranged c.args.p c.requires.p_value).zones_high),
+  );
+}
 
 pub returns : goal.returns
 returns c =

@@ -22,7 +22,8 @@ zone_len-step-requires c =
 pub block_byte-at-requires : goal.block_byte-at-requires
 block_byte-at-requires c =
     let r = ranged c.args.p c.requires.p_value in
-    let k : 0 < capacity c.args.p = let x = capacity-low c.args.p r in omega (arith, x) in record { p_value = c.requires.p_value; drive_lt_n = (c.low_drive-low.ensures.1, omega (arith, r.zones_low), k) }
+    let k : 0 < capacity c.args.p = let x = capacity-low c.args.p r in omega (arith, x) in
+    record { p_value = c.requires.p_value; drive_lt_n = (c.low_drive-low.ensures.1, omega (arith, r.zones_low), k) }
 
 pub loop-z-init : goal.loop-z-init
 loop-z-init c = (omega arith, refl, c.block_byte-at.ensures.0, λ off ps h j l. absurd (let q : ⊥ = omega (arith, l) in q))
@@ -31,7 +32,11 @@ pub serial_here-s-requires : goal.serial_here-s-requires
 serial_here-s-requires c =
     let a = c.args in
     let l = c.loop-z in
-    let low = c.low_drive-low in record { p_value = c.requires.p_value; p_in_bounds = found_header_room a.p low.result l.z l.at a.image.now (ranged a.p c.requires.p_value) low.ensures.1 c.loop-z-test.true l.invariant.2 c.requires.image_len.0 }
+    let low = c.low_drive-low in record {
+      p_value = c.requires.p_value;
+      p_in_bounds = found_header_room a.p low.result l.z l.at a.image.now
+          (ranged a.p c.requires.p_value) low.ensures.1 c.loop-z-test.true l.invariant.2 c.requires.image_len.0;
+    }
 
 pub offset_bounds-out-z : goal.offset_bounds-out-z
 offset_bounds-out-z c =

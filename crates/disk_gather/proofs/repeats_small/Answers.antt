@@ -15,7 +15,8 @@ chain_all-requires c =
     let r = ranged p q.p_value in
     let l = links_few p r q.whole.2 in
     let h = subst (λ (n : ℕ). p.N * p.Z ≤ n) (sym (length-replicate {A = ℕ} 256 0)) q.whole.2 in
-    let m = subst (λ (n : ℕ). p.N * (63 + 1 + p.Z) ≤ n) (sym (length-replicate {A = ℕ} 768 65535)) l in record { p_value = q.p_value; whole = (q.whole.0, q.whole.1); mask_bound = (omega arith, h, m, blank_new p 63 768 l) }
+    let m = subst (λ (n : ℕ). p.N * (63 + 1 + p.Z) ≤ n) (sym (length-replicate {A = ℕ} 768 65535)) l in
+    record { p_value = q.p_value; whole = (q.whole.0, q.whole.1); mask_bound = (omega arith, h, m, blank_new p 63 768 l) }
 
 pub flag_repeats-requires : goal.flag_repeats-requires
 flag_repeats-requires c =
@@ -26,7 +27,8 @@ flag_repeats-requires c =
     let h = subst (λ (n : ℕ). p.N * p.Z ≤ n) (sym (length-replicate {A = ℕ} 256 0)) q.whole.2 in
     let m = subst (λ (n : ℕ). p.N * (63 + 1 + p.Z) ≤ n) (sym (length-replicate {A = ℕ} 768 65535)) l in
     let x = subst (λ (n : ℕ). p.N * p.Z ≤ n) (sym c.chain_all.auto.heads) h in
-    let y = subst (λ (n : ℕ). p.N * (63 + 1 + p.Z) ≤ n) (sym c.chain_all.auto.links) m in record { p_value = q.p_value; image_len = (q.whole.0.image_long, omega arith, x, y); z_in_bounds = q.z_in_bounds }
+    let y = subst (λ (n : ℕ). p.N * (63 + 1 + p.Z) ≤ n) (sym c.chain_all.auto.links) m in
+    record { p_value = q.p_value; image_len = (q.whole.0.image_long, omega arith, x, y); z_in_bounds = q.z_in_bounds }
 
 pub returns : goal.returns
 returns c =

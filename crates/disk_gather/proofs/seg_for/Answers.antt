@@ -16,4 +16,6 @@ seg_from-requires c =
     let v = view_of a.p a.offline.now a.image.now a.pointers.now in
     let low = c.low_drive-low.ensures in
     let r = c.lowest_bearing-first.ensures in
-    let q : c.lowest_bearing-first.result ≡ lowest_bearing a.p v (low_drive a.p a.gone) a.serial.0 = r.0 ∙ ap (λ (d : ℕ). lowest_bearing a.p v d a.serial.0) low.0 in record { p_value = c.requires.p_value; whole = c.requires.whole; low_lt_n = (low.1, low.0, omega (arith, q, c.requires.serial_bound), r.0) }
+    let q : c.lowest_bearing-first.result ≡ lowest_bearing a.p v (low_drive a.p a.gone) a.serial.0 = r.0
+    ∙ ap (λ (d : ℕ). lowest_bearing a.p v d a.serial.0) low.0 in
+    record { p_value = c.requires.p_value; whole = c.requires.whole; low_lt_n = (low.1, low.0, omega (arith, q, c.requires.serial_bound), r.0) }

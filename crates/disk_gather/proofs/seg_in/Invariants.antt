@@ -15,7 +15,8 @@ use Rattle.disk_gather.proofs.seg_in.Given as goal
 abbrev pub invariant-loop-d : goal.invariant-loop-d
 invariant-loop-d l =
     (l.d ≤ l.p.N)
-    × ((off ps : List ℕ) → length ps ≡ pointers_len l.p → ChainedTo l.p (view_of l.p off l.image ps) l.gone l.mask l.p.N l.heads l.links → l.first ≡ lowest_bearing l.p (view_of l.p off l.image ps) l.low l.serial.0
+    × ((off ps : List ℕ) → length ps ≡ pointers_len l.p → ChainedTo l.p (view_of l.p off l.image ps) l.gone l.mask l.p.N l.heads l.links
+    → l.first ≡ lowest_bearing l.p (view_of l.p off l.image ps) l.low l.serial.0
     → l.zones ≡ filled_to (zone_for l.p (view_of l.p off l.image ps) l.gone l.serial.0) l.d)
 
 abbrev pub decreases-loop-d : goal.decreases-loop-d

@@ -71,7 +71,8 @@ is_twice-requires c =
     let w = a.mask + 1 + p.Z in
     let k = chain_room p a.mask a.drive (ranged p c.requires.p_value) c.requires.drive_lt_n.0 c.requires.drive_lt_n.1 in
     let h = length_lent (a.drive * p.Z) p.Z a.heads.now (omega (arith, k.0, c.requires.drive_lt_n.2)) in
-    let l = length_lent (a.drive * w) w a.links.now (omega (arith, k.2, c.requires.drive_lt_n.3)) in record { p_value = c.requires.p_value; mask_bound = (c.requires.drive_lt_n.1, omega (arith, h), omega (arith, l)) }
+    let l = length_lent (a.drive * w) w a.links.now (omega (arith, k.2, c.requires.drive_lt_n.3)) in
+    record { p_value = c.requires.p_value; mask_bound = (c.requires.drive_lt_n.1, omega (arith, h), omega (arith, l)) }
 
 pub returns : goal.returns
 returns c =

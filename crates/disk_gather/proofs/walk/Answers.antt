@@ -22,7 +22,11 @@ bounds-heads-z c =
 pub returns-then-heads-z : goal.returns-then-heads-z
 returns-then-heads-z c =
     let a = c.args in
-    let l = c.loop-z in record { nearest = (λ v d i h x n. index_walk_hit a.p v a.mask d a.serial.0 a.heads.now a.links.now x i l.z (l.invariant v d i h x n) c.loop-z-test.true c.if-heads-z.true); upper_bound = omega (arith, c.loop-z-test.true) }
+    let l = c.loop-z in record {
+      nearest = (λ v d i h x n. index_walk_hit a.p v a.mask d a.serial.0 a.heads.now a.links.now x i l.z (l.invariant v d i h x n)
+          c.loop-z-test.true c.if-heads-z.true);
+      upper_bound = omega (arith, c.loop-z-test.true);
+    }
 
 pub overflow_add-z : goal.overflow_add-z
 overflow_add-z c = omega (arith, c.loop-z-test.true)
@@ -60,4 +64,8 @@ loop-z-preserved c =
 pub returns : goal.returns
 returns c =
     let a = c.args in
-    let l = c.loop-z in record { nearest = (λ v d i h x n. walk_end a.p v a.mask d a.serial.0 a.heads.now a.links.now x i l.z (l.invariant v d i h x n) (omega (arith, c.loop-z-test.false)) h); upper_bound = omega arith }
+    let l = c.loop-z in record {
+      nearest = (λ v d i h x n. walk_end a.p v a.mask d a.serial.0 a.heads.now a.links.now x i l.z (l.invariant v d i h x n)
+          (omega (arith, c.loop-z-test.false)) h);
+      upper_bound = omega arith;
+    }

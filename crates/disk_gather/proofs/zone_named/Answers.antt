@@ -13,7 +13,11 @@ use Rattle.disk_gather.specs.Found.{block_in_unit, head_bytes}
 use Rattle.disk_gather.proofs.zone_named.Goals as goal
 
 pub block_byte-a-requires : goal.block_byte-a-requires
-block_byte-a-requires c = record { p_value = c.requires.p_value; drive_lt_n = (c.requires.image_len.1, c.requires.image_len.2, (let x = capacity-low c.args.p (ranged c.args.p c.requires.p_value) in omega (arith, x))) }
+block_byte-a-requires c = record {
+  p_value = c.requires.p_value;
+  drive_lt_n =
+      (c.requires.image_len.1, c.requires.image_len.2, (let x = capacity-low c.args.p (ranged c.args.p c.requires.p_value) in omega (arith, x)));
+}
 
 pub overflow_add-e : goal.overflow_add-e
 overflow_add-e c =

@@ -32,11 +32,15 @@ remains_from-requires c =
     let low = c.low_drive-low in
     let s = c.serial_in-serial.ensures a.offline.now a.pointers.now c.requires.whole.0.pointers_long in
     let t : lowest_bearing a.p v a.drive (serial_in a.p v a.drive a.zone) ≡ a.zone =
-    lead_lowest a.p v a.drive a.zone (sym l.ensures ∙ not-false l.result c.if-not-leads.false-raw) in record { p_value = c.requires.p_value; whole = c.requires.whole; low_value = (
-          low.ensures.0,
-          c.requires.drive_lt_n.1,
-          sym (ap (λ (d : ℕ). lowest_bearing a.p v d c.serial_in-serial.result.0) (sym c.if-drive-low.true) ∙ ap (lowest_bearing a.p v a.drive) s ∙ t),
-        ) }
+    lead_lowest a.p v a.drive a.zone (sym l.ensures ∙ not-false l.result c.if-not-leads.false-raw) in record {
+      p_value = c.requires.p_value;
+      whole = c.requires.whole;
+      low_value = (
+        low.ensures.0,
+        c.requires.drive_lt_n.1,
+        sym (ap (λ (d : ℕ). lowest_bearing a.p v d c.serial_in-serial.result.0) (sym c.if-drive-low.true) ∙ ap (lowest_bearing a.p v a.drive) s ∙ t),
+      );
+    }
 
 pub returns-then-drive-low : goal.returns-then-drive-low
 returns-then-drive-low c =

@@ -32,10 +32,23 @@ drive_low c = subst (λ (n : ℕ). n < c.args.p.N) (sym c.place_drive-drive.ensu
 
 pub record_in-spare-requires : goal.record_in-spare-requires
 record_in-spare-requires c =
-    let k = c.requires.data_place.0 in record { p_value = c.requires.p_value; image_len = (c.requires.whole.0.image_long, drive_low (goal.at.record_in-spare-requires c).After-place_block-offset, c.place_zone-zone.ensures.1, omega (arith, c.place_block-offset.ensures.0, k.block_low, k.block_high)) }
+    let k = c.requires.data_place.0 in record {
+      p_value = c.requires.p_value;
+      image_len = (
+        c.requires.whole.0.image_long,
+        drive_low (goal.at.record_in-spare-requires c).After-place_block-offset,
+        c.place_zone-zone.ensures.1,
+        omega
+            (arith, c.place_block-offset.ensures.0, k.block_low, k.block_high),
+      );
+    }
 
 pub pointer-pointer-requires : goal.pointer-pointer-requires
-pointer-pointer-requires c = record { p_value = c.requires.p_value; pointers_len = (c.requires.whole.0.pointers_long, drive_low (goal.at.pointer-pointer-requires c).After-place_block-offset, c.place_zone-zone.ensures.1) }
+pointer-pointer-requires c = record {
+  p_value = c.requires.p_value;
+  pointers_len =
+      (c.requires.whole.0.pointers_long, drive_low (goal.at.pointer-pointer-requires c).After-place_block-offset, c.place_zone-zone.ensures.1);
+}
 
 pub capacity-requires : goal.capacity-requires
 capacity-requires c = c.requires.p_value
@@ -57,12 +70,15 @@ returns-then-pointer-capacity c =
 
 pub record_in-footer-requires : goal.record_in-footer-requires
 record_in-footer-requires c =
-    let k = c.requires.data_place.0 in record { p_value = c.requires.p_value; image_len = (
+    let k = c.requires.data_place.0 in record {
+      p_value = c.requires.p_value;
+      image_len = (
         c.requires.whole.0.image_long,
         drive_low (goal.at.record_in-footer-requires c).After-place_block-offset,
         c.place_zone-zone.ensures.1,
         omega (arith, c.place_block-offset.ensures.0, k.block_low, k.block_high),
-      ) }
+      );
+    }
 
 pub returns-then-is_same : goal.returns-then-is_same
 returns-then-is_same c =
@@ -85,11 +101,15 @@ is_sealed_at-requires c =
     let v = view_of a.p a.offline.now a.image.now a.pointers.now in
     let d = c.place_drive-drive in
     let z = c.place_zone-zone in
-    let k = (place_held-one a.p v a.gone a.place.0 c.requires.data_place.2 c.requires.whole.2 c.requires.data_place.1).it_remains in record { p_value = c.requires.p_value; whole = c.requires.whole; drive_lt_n = (
-          drive_low (goal.at.is_sealed_at-requires c).After-place_block-offset,
-          z.ensures.1,
-          (λ j. serial_remains a.p v a.gone (serial_in a.p v (d.ensures.0 j) (z.ensures.0 j))) ∙ k,
-        ) }
+    let k = (place_held-one a.p v a.gone a.place.0 c.requires.data_place.2 c.requires.whole.2 c.requires.data_place.1).it_remains in record {
+      p_value = c.requires.p_value;
+      whole = c.requires.whole;
+      drive_lt_n = (
+        drive_low (goal.at.is_sealed_at-requires c).After-place_block-offset,
+        z.ensures.1,
+        (λ j. serial_remains a.p v a.gone (serial_in a.p v (d.ensures.0 j) (z.ensures.0 j))) ∙ k,
+      );
+    }
 
 pub returns-then-is_sealed_at : goal.returns-then-is_sealed_at
 returns-then-is_sealed_at c =

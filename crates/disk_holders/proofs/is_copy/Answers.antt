@@ -9,7 +9,11 @@ use Rattle.disk_holders.proofs.is_copy.Goals as goal
 
 pub copied_in-c-requires : goal.copied_in-c-requires
 copied_in-c-requires c =
-    let a = c.args in record { p_value = c.requires.p_value; image_len = (c.requires.whole.0.image_long, subst (λ (n : ℕ). n < a.p.N) (sym c.requires.low_value.0) c.requires.whole.2.0, c.requires.low_value.1) }
+    let a = c.args in record {
+      p_value = c.requires.p_value;
+      image_len =
+          (c.requires.whole.0.image_long, subst (λ (n : ℕ). n < a.p.N) (sym c.requires.low_value.0) c.requires.whole.2.0, c.requires.low_value.1);
+    }
 
 pub returns-then-c-eq0 : goal.returns-then-c-eq0
 returns-then-c-eq0 c =
@@ -31,7 +35,12 @@ pub is_left-requires : goal.is_left-requires
 is_left-requires c =
     let a = c.args in
     let here = c.requires.whole.2 in
-    let q = sym c.requires.low_value.0 in record { p_value = c.requires.p_value; whole = (c.requires.whole.0, c.requires.whole.1); low_lt_n = (subst (λ (n : ℕ). n < a.p.N) q here.0, subst (λ (n : ℕ). is_in a.gone n ≡ false) q here.1) }
+    let q = sym c.requires.low_value.0 in record {
+      p_value = c.requires.p_value;
+      whole = (c.requires.whole.0, c.requires.whole.1);
+      low_lt_n =
+          (subst (λ (n : ℕ). n < a.p.N) q here.0, subst (λ (n : ℕ). is_in a.gone n ≡ false) q here.1);
+    }
 
 pub returns : goal.returns
 returns c =

@@ -14,7 +14,13 @@ pub seg_for-segment-requires : goal.seg_for-segment-requires
 seg_for-segment-requires c =
     let a = c.args in
     let v = view_of a.p a.offline.now a.image.now a.pointers.now in
-    let s = c.serial_in-serial.ensures a.offline.now a.pointers.now c.requires.whole.0.pointers_long in record { p_value = c.requires.p_value; whole = (c.requires.whole.0, c.requires.whole.1); serial_bound = remains_low a.p v a.gone c.requires.whole.2 c.serial_in-serial.result.0 (ap (serial_remains a.p v a.gone) s ∙ c.requires.drive_lt_n.2) }
+    let s = c.serial_in-serial.ensures a.offline.now a.pointers.now c.requires.whole.0.pointers_long in
+    record {
+      p_value = c.requires.p_value;
+      whole = (c.requires.whole.0, c.requires.whole.1);
+      serial_bound = remains_low a.p v a.gone c.requires.whole.2
+          c.serial_in-serial.result.0 (ap (serial_remains a.p v a.gone) s ∙ c.requires.drive_lt_n.2);
+    }
 
 pub is_sealed-requires : goal.is_sealed-requires
 is_sealed-requires c =
@@ -23,7 +29,12 @@ is_sealed-requires c =
     let here = c.requires.whole.2 in
     let r = c.serial_in-serial.result.0 in
     let s = c.serial_in-serial.ensures a.offline.now a.pointers.now c.requires.whole.0.pointers_long in
-    let m = remains_in a.p v a.gone here r (ap (serial_remains a.p v a.gone) s ∙ c.requires.drive_lt_n.2) in record { p_value = c.requires.p_value; pointers_len = (c.requires.whole.0.pointers_long, subst (ZonesLow a.p a.gone) (sym c.seg_for-segment.ensures) (remaining-low a.p v a.gone here (seg_for a.p v a.gone r) m)) }
+    let m = remains_in a.p v a.gone here r (ap (serial_remains a.p v a.gone) s ∙ c.requires.drive_lt_n.2) in
+    record {
+      p_value = c.requires.p_value;
+      pointers_len =
+          (c.requires.whole.0.pointers_long, subst (ZonesLow a.p a.gone) (sym c.seg_for-segment.ensures) (remaining-low a.p v a.gone here (seg_for a.p v a.gone r) m));
+    }
 
 pub returns : goal.returns
 returns c =

@@ -20,8 +20,11 @@ unfolding is_one_of HeldAs
 returns-then-not-is_good c =
     let a = c.args in
     let v = view_of a.p a.offline.now a.image.now a.pointers.now in
-    let g = c.is_good in record { zone_value = and_false_left (is_good a.p a.offline.now a.drive a.zone) (eqb (length (holders a.p v a.gone a.drive a.zone)) 1)
-          (sym g.ensures ∙ not-true g.result c.if-not-is_good.true-raw); held_as = tt }
+    let g = c.is_good in record {
+      zone_value = and_false_left (is_good a.p a.offline.now a.drive a.zone) (eqb (length (holders a.p v a.gone a.drive a.zone)) 1)
+          (sym g.ensures ∙ not-true g.result c.if-not-is_good.true-raw);
+      held_as = tt;
+    }
 
 pub low_drive-low-requires : goal.low_drive-low-requires
 low_drive-low-requires c = c.requires.p_value
@@ -34,8 +37,11 @@ unfolding is_one_of HeldAs
 returns-then-p-y c =
     let a = c.args in
     let v = view_of a.p a.offline.now a.image.now a.pointers.now in
-    let n = c.next_named-y.ensures.0 in record { zone_value = and_false_right (is_good a.p a.offline.now a.drive a.zone) (eqb (length (holders a.p v a.gone a.drive a.zone)) 1)
-          (nothing_names a.p v a.gone c.requires.whole.2 a.drive a.zone c.requires.drive_lt_n.0 c.requires.drive_lt_n.2 (subst (λ (x : ℕ). a.p.Z ≤ x) n c.if-p-y.true)); held_as = tt }
+    let n = c.next_named-y.ensures.0 in record {
+      zone_value = and_false_right (is_good a.p a.offline.now a.drive a.zone) (eqb (length (holders a.p v a.gone a.drive a.zone)) 1)
+          (nothing_names a.p v a.gone c.requires.whole.2 a.drive a.zone c.requires.drive_lt_n.0 c.requires.drive_lt_n.2 (subst (λ (x : ℕ). a.p.Z ≤ x) n c.if-p-y.true));
+      held_as = tt;
+    }
 
 pub overflow_add-y : goal.overflow_add-y
 overflow_add-y c =
@@ -50,9 +56,12 @@ returns-then-other-p c =
     let a = c.args in
     let v = view_of a.p a.offline.now a.image.now a.pointers.now in
     let y = c.next_named-y in
-    let x = c.next_named-other in record { zone_value = and_false_right (is_good a.p a.offline.now a.drive a.zone) (eqb (length (holders a.p v a.gone a.drive a.zone)) 1)
+    let x = c.next_named-other in record {
+      zone_value = and_false_right (is_good a.p a.offline.now a.drive a.zone) (eqb (length (holders a.p v a.gone a.drive a.zone)) 1)
           (two_name a.p v a.gone c.requires.whole.2 a.drive a.zone c.requires.drive_lt_n.0 c.requires.drive_lt_n.2 y.result c.if-p-y.false y.ensures.0
-          x.result c.if-other-p.true x.ensures.0); held_as = tt }
+          x.result c.if-other-p.true x.ensures.0);
+      held_as = tt;
+    }
 
 pub serial_in-requires : goal.serial_in-requires
 serial_in-requires c = record { p_value = c.requires.p_value; image_len = (c.requires.whole.0.image_long, c.low_drive-low.ensures.1, c.if-p-y.false) }
@@ -69,5 +78,8 @@ returns c =
     ∙ ap (λ (d : ℕ). serial_in a.p v d y.result) c.low_drive-low.ensures.0 in
     let h = one_names a.p v a.gone c.requires.whole.2 a.drive a.zone c.requires.drive_lt_n.0 c.requires.drive_lt_n.2 y.result c.if-p-y.false y.ensures.0
     (subst (λ (n : ℕ). a.p.Z ≤ n) x.ensures.0 c.if-other-p.false) in
-    let k : HeldOne a.p v a.gone a.drive a.zone c.serial_in.result.0 = subst (HeldOne a.p v a.gone a.drive a.zone) (sym s) h in record { zone_value = held_answer a.p v a.gone a.drive a.zone c.serial_in.result.0
-          (sym g.ensures ∙ not-false g.result c.if-not-is_good.false-raw) k; held_as = k }
+    let k : HeldOne a.p v a.gone a.drive a.zone c.serial_in.result.0 = subst (HeldOne a.p v a.gone a.drive a.zone) (sym s) h in record {
+      zone_value = held_answer a.p v a.gone a.drive a.zone c.serial_in.result.0
+          (sym g.ensures ∙ not-false g.result c.if-not-is_good.false-raw) k;
+      held_as = k;
+    }

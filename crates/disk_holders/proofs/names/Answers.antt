@@ -9,7 +9,12 @@ use Rattle.disk_holders.proofs.names.Goals as goal
 
 pub is_used-requires : goal.is_used-requires
 is_used-requires c =
-    let a = c.args in record { p_value = c.requires.p_value; pointers_len = (c.requires.whole.0.pointers_long, c.requires.whole.1); drive_lt_n = (subst (λ (n : ℕ). n < a.p.N) (sym c.requires.low_value.0) c.requires.whole.2.0, c.requires.low_value.2) }
+    let a = c.args in record {
+      p_value = c.requires.p_value;
+      pointers_len = (c.requires.whole.0.pointers_long, c.requires.whole.1);
+      drive_lt_n =
+          (subst (λ (n : ℕ). n < a.p.N) (sym c.requires.low_value.0) c.requires.whole.2.0, c.requires.low_value.2);
+    }
 
 pub returns-then-not-is_used : goal.returns-then-not-is_used
 returns-then-not-is_used c =
@@ -21,7 +26,11 @@ returns-then-not-is_used c =
 
 pub zone_named-named-requires : goal.zone_named-named-requires
 zone_named-named-requires c =
-    let a = c.args in record { p_value = c.requires.p_value; image_len = (c.requires.whole.0.image_long, subst (λ (n : ℕ). n < a.p.N) (sym c.requires.low_value.0) c.requires.whole.2.0, c.requires.low_value.2, c.requires.low_value.1) }
+    let a = c.args in record {
+      p_value = c.requires.p_value;
+      image_len =
+          (c.requires.whole.0.image_long, subst (λ (n : ℕ). n < a.p.N) (sym c.requires.low_value.0) c.requires.whole.2.0, c.requires.low_value.2, c.requires.low_value.1);
+    }
 
 pub returns-then-named-zone : goal.returns-then-named-zone
 returns-then-named-zone c =
@@ -33,7 +42,12 @@ returns-then-named-zone c =
 
 pub held_here-requires : goal.held_here-requires
 held_here-requires c =
-    let a = c.args in record { p_value = c.requires.p_value; whole = c.requires.whole; drive_lt_n = (subst (λ (n : ℕ). n < a.p.N) (sym c.requires.low_value.0) c.requires.whole.2.0, c.requires.low_value.2) }
+    let a = c.args in record {
+      p_value = c.requires.p_value;
+      whole = c.requires.whole;
+      drive_lt_n =
+          (subst (λ (n : ℕ). n < a.p.N) (sym c.requires.low_value.0) c.requires.whole.2.0, c.requires.low_value.2);
+    }
 
 pub returns : goal.returns
 returns c =

@@ -11,7 +11,8 @@ use Rattle.disk_holders.proofs.open_segment.Goals as goal
 
 pub seg_from-requires : goal.seg_from-requires
 seg_from-requires c =
-    let r = ranged c.args.p c.requires.p_value in record { p_value = c.requires.p_value; whole = c.requires.whole; low_lt_n = (omega (arith, r.drives_low), sym (low_first c.args.p r), c.requires.serial_value.1, c.requires.serial_value.2) }
+    let r = ranged c.args.p c.requires.p_value in
+    record { p_value = c.requires.p_value; whole = c.requires.whole; low_lt_n = (omega (arith, r.drives_low), sym (low_first c.args.p r), c.requires.serial_value.1, c.requires.serial_value.2) }
 
 pub returns : goal.returns
 returns c =

@@ -26,14 +26,21 @@ returns-then-p-first c =
 
 pub remains_from-requires : goal.remains_from-requires
 remains_from-requires c =
-    let r = ranged c.args.p c.requires.p_value in record { p_value = c.requires.p_value; whole = (c.requires.whole.0, c.requires.whole.1, zero_here c.args.p r); low_value = (sym (low_first c.args.p r), c.if-p-first.false, c.lowest_bearing-first.ensures.0) }
+    let r = ranged c.args.p c.requires.p_value in
+    record {
+      p_value = c.requires.p_value;
+      whole = (c.requires.whole.0, c.requires.whole.1, zero_here c.args.p r);
+      low_value =
+          (sym (low_first c.args.p r), c.if-p-first.false, c.lowest_bearing-first.ensures.0);
+    }
 
 pub returns-then-not-remains_from : goal.returns-then-not-remains_from
 returns-then-not-remains_from c =
     let a = c.args in
     let v = view_of a.p a.offline.now a.image.now a.pointers.now in
     let m = c.remains_from in
-    let y = opened_nowhere a.p (ranged a.p c.requires.p_value) v a.drive a.serial.0 a.p.Z (sym m.ensures ∙ not-true m.result c.if-not-remains_from.true-raw) refl in record { st_value = y.0; value = y.1; upper_bound = y.2 }
+    let y = opened_nowhere a.p (ranged a.p c.requires.p_value) v a.drive a.serial.0 a.p.Z (sym m.ensures ∙ not-true m.result c.if-not-remains_from.true-raw) refl in
+    record { st_value = y.0; value = y.1; upper_bound = y.2 }
 
 pub returns-then-drive-eq0 : goal.returns-then-drive-eq0
 returns-then-drive-eq0 c =

@@ -16,13 +16,19 @@ pub returns-then-p-drive : goal.returns-then-p-drive
 unfolding is_one_of HeldAs
 returns-then-p-drive c =
     let a = c.args in
-    let v = view_of a.p a.offline.now a.image.now a.pointers.now in record { place_value = place_outside a.p v a.gone a.place.0 (subst (λ (n : ℕ). a.p.N ≤ n) c.place_drive-drive.ensures.0 c.if-p-drive.true); held_as = tt }
+    let v = view_of a.p a.offline.now a.image.now a.pointers.now in
+    record { place_value = place_outside a.p v a.gone a.place.0 (subst (λ (n : ℕ). a.p.N ≤ n) c.place_drive-drive.ensures.0 c.if-p-drive.true); held_as = tt }
 
 pub place_zone-zone-requires : goal.place_zone-zone-requires
 place_zone-zone-requires c = c.requires.p_value
 
 pub named_held-requires : goal.named_held-requires
-named_held-requires c = record { p_value = c.requires.p_value; whole = c.requires.whole; drive_lt_n = (c.if-p-drive.false, c.place_zone-zone.ensures.1, sym c.has_drive.ensures ∙ c.if-has_drive.true) }
+named_held-requires c = record {
+  p_value = c.requires.p_value;
+  whole = c.requires.whole;
+  drive_lt_n =
+      (c.if-p-drive.false, c.place_zone-zone.ensures.1, sym c.has_drive.ensures ∙ c.if-has_drive.true);
+}
 
 pub returns-then-has_drive : goal.returns-then-has_drive
 unfolding view_of
@@ -46,7 +52,8 @@ returns-then-not-held_here c =
     let h = c.held_here in
     let pr : is_in a.gone d.result ≡ false = sym c.has_drive.ensures ∙ c.if-has_drive.false in
     let r = answer_at a.p v a.gone a.place.0 d.result z.result Nothing d.ensures.0 z.ensures.0 c.if-p-drive.false
-    (held_good a.p v a.gone c.requires.whole.2 d.result z.result c.if-p-drive.false pr ∙ sym h.ensures ∙ not-true h.result c.if-not-held_here.true-raw) tt in record { place_value = r.0; held_as = r.1 }
+    (held_good a.p v a.gone c.requires.whole.2 d.result z.result c.if-p-drive.false pr ∙ sym h.ensures ∙ not-true h.result c.if-not-held_here.true-raw) tt in
+    record { place_value = r.0; held_as = r.1 }
 
 pub serial_in-requires : goal.serial_in-requires
 serial_in-requires c = record { p_value = c.requires.p_value; image_len = (c.requires.whole.0.image_long, c.if-p-drive.false, c.place_zone-zone.ensures.1) }

@@ -9,7 +9,12 @@ use Rattle.disk_holders.proofs.remains_from.Goals as goal
 
 pub is_borne-requires : goal.is_borne-requires
 is_borne-requires c =
-    let a = c.args in record { p_value = c.requires.p_value; whole = (c.requires.whole.0, c.requires.whole.1); low_lt_n = (subst (λ (n : ℕ). n < a.p.N) (sym c.requires.low_value.0) c.requires.whole.2.0, c.requires.low_value.1) }
+    let a = c.args in record {
+      p_value = c.requires.p_value;
+      whole = (c.requires.whole.0, c.requires.whole.1);
+      low_lt_n =
+          (subst (λ (n : ℕ). n < a.p.N) (sym c.requires.low_value.0) c.requires.whole.2.0, c.requires.low_value.1);
+    }
 
 pub returns-then-not-is_borne : goal.returns-then-not-is_borne
 returns-then-not-is_borne c =

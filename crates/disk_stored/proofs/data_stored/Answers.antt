@@ -13,7 +13,12 @@ returns-then-n-eq0 c =
     let pre = c.requires in
     let p = a.p in
     let h = pre.pointers_len in
-    let n : c.pointer-n.result ≡ pointer_of p a.pointers.now a.drive a.zone = c.pointer-n.ensures in record { by_index = (λ off im hi. let e = data_stored_by p (ranged p pre.p_value) off im a.pointers.now hi h.0 a.drive a.zone h.1 h.2 in omega (arith, e, n, c.if-n-eq0.true)); upper_bound = omega arith }
+    let n : c.pointer-n.result ≡ pointer_of p a.pointers.now a.drive a.zone = c.pointer-n.ensures in
+    record {
+      by_index = (λ off im hi. let e = data_stored_by p (ranged p pre.p_value) off im a.pointers.now hi h.0 a.drive a.zone h.1 h.2 in omega
+          (arith, e, n, c.if-n-eq0.true));
+      upper_bound = omega arith;
+    }
 
 pub returns-then-p-n : goal.returns-then-p-n
 returns-then-p-n c =
@@ -22,7 +27,12 @@ returns-then-p-n c =
     let pre = c.requires in
     let p = a.p in
     let h = pre.pointers_len in
-    let n : pointer.result ≡ pointer_of p a.pointers.now a.drive a.zone = pointer.ensures in record { by_index = (λ off im hi. let e = data_stored_by p (ranged p pre.p_value) off im a.pointers.now hi h.0 a.drive a.zone h.1 h.2 in omega (arith, e, n, c.if-p-n.true)); upper_bound = omega arith }
+    let n : pointer.result ≡ pointer_of p a.pointers.now a.drive a.zone = pointer.ensures in
+    record {
+      by_index = (λ off im hi. let e = data_stored_by p (ranged p pre.p_value) off im a.pointers.now hi h.0 a.drive a.zone h.1 h.2 in omega
+          (arith, e, n, c.if-p-n.true));
+      upper_bound = omega arith;
+    }
 
 pub returns : goal.returns
 returns c =
@@ -31,5 +41,8 @@ returns c =
     let pre = c.requires in
     let p = a.p in
     let h = pre.pointers_len in
-    let n : pointer.result ≡ pointer_of p a.pointers.now a.drive a.zone = pointer.ensures in record { by_index = (λ off im hi. let e = data_stored_by p (ranged p pre.p_value) off im a.pointers.now hi h.0 a.drive a.zone h.1 h.2 in omega (arith, e, n, c.if-p-n.false)); upper_bound = omega
-          (arith, c.if-p-n.false) }
+    let n : pointer.result ≡ pointer_of p a.pointers.now a.drive a.zone = pointer.ensures in record {
+      by_index = (λ off im hi. let e = data_stored_by p (ranged p pre.p_value) off im a.pointers.now hi h.0 a.drive a.zone h.1 h.2 in omega (arith, e, n, c.if-p-n.false));
+      upper_bound = omega
+          (arith, c.if-p-n.false);
+    }

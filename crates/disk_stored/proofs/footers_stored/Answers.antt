@@ -17,7 +17,12 @@ returns-then-n-p c =
     let pre = c.requires in
     let p = a.p in
     let h = pre.pointers_len in
-    let n : pointer.result ≡ pointer_of p a.pointers.now a.drive a.zone = pointer.ensures in record { by_index = (λ off im hi. let e = footers-stored_by p (ranged p pre.p_value) off im a.pointers.now hi h.0 a.drive a.zone h.1 h.2 in omega (arith, e, n, c.if-n-p.true)); upper_bound = omega arith }
+    let n : pointer.result ≡ pointer_of p a.pointers.now a.drive a.zone = pointer.ensures in
+    record {
+      by_index = (λ off im hi. let e = footers-stored_by p (ranged p pre.p_value) off im a.pointers.now hi h.0 a.drive a.zone h.1 h.2 in omega
+          (arith, e, n, c.if-n-p.true));
+      upper_bound = omega arith;
+    }
 
 pub returns-then-f-m : goal.returns-then-f-m
 returns-then-f-m c =
@@ -26,8 +31,11 @@ returns-then-f-m c =
     let pre = c.requires in
     let p = a.p in
     let h = pre.pointers_len in
-    let n : pointer.result ≡ pointer_of p a.pointers.now a.drive a.zone = pointer.ensures in record { by_index = (λ off im hi. let e = footers-stored_by p (ranged p pre.p_value) off im a.pointers.now hi h.0 a.drive a.zone h.1 h.2 in omega
-          (arith, e, n, c.if-f-m.true, c.footers-f.ensures.0)); upper_bound = omega (arith, c.footers-f.ensures.0) }
+    let n : pointer.result ≡ pointer_of p a.pointers.now a.drive a.zone = pointer.ensures in record {
+      by_index = (λ off im hi. let e = footers-stored_by p (ranged p pre.p_value) off im a.pointers.now hi h.0 a.drive a.zone h.1 h.2 in omega
+          (arith, e, n, c.if-f-m.true, c.footers-f.ensures.0));
+      upper_bound = omega (arith, c.footers-f.ensures.0);
+    }
 
 pub returns : goal.returns
 returns c =
@@ -36,5 +44,8 @@ returns c =
     let pre = c.requires in
     let p = a.p in
     let h = pre.pointers_len in
-    let n : pointer.result ≡ pointer_of p a.pointers.now a.drive a.zone = pointer.ensures in record { by_index = (λ off im hi. let e = footers-stored_by p (ranged p pre.p_value) off im a.pointers.now hi h.0 a.drive a.zone h.1 h.2 in omega
-          (arith, e, n, c.if-f-m.false, c.footers-f.ensures.0)); upper_bound = omega (arith, c.if-f-m.false, c.footers-f.ensures.0) }
+    let n : pointer.result ≡ pointer_of p a.pointers.now a.drive a.zone = pointer.ensures in record {
+      by_index = (λ off im hi. let e = footers-stored_by p (ranged p pre.p_value) off im a.pointers.now hi h.0 a.drive a.zone h.1 h.2 in omega
+          (arith, e, n, c.if-f-m.false, c.footers-f.ensures.0));
+      upper_bound = omega (arith, c.if-f-m.false, c.footers-f.ensures.0);
+    }

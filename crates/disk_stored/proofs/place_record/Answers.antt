@@ -14,7 +14,8 @@ record_at-requires c =
     let d = c.place_drive-drive in
     let dp = pre.data_place.0 in
     let hd : d.result < p.N = omega (arith, d.ensures.0, dp.drive_low) in
-    let hz : zone_on a.segment d.result < p.Z = rw d.ensures.0 pre.data_place.2 in record { p_value = pre.p_value; whole = pre.whole; drive_lt_n = (hd, pre.data_place.1, omega (arith, c.place_block-offset.ensures.0, dp.block_low, dp.block_high), hz) }
+    let hz : zone_on a.segment d.result < p.Z = rw d.ensures.0 pre.data_place.2 in
+    record { p_value = pre.p_value; whole = pre.whole; drive_lt_n = (hd, pre.data_place.1, omega (arith, c.place_block-offset.ensures.0, dp.block_low, dp.block_high), hz) }
 
 pub returns : goal.returns
 returns c =

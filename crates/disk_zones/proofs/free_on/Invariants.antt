@@ -11,7 +11,8 @@ use Rattle.disk_zones.proofs.free_on.Given as goal
 
 abbrev pub invariant-loop-z : goal.invariant-loop-z
 invariant-loop-z l =
-    (l.z ≤ l.p.Z) × (l.n ≤ l.most) × (l.n + l.z ≤ l.p.Z) × (min l.most (l.n + tally (free_by l.p l.pointers l.offline l.drive) (below l.z)) ≡ min l.most (tally (free_by l.p l.pointers l.offline l.drive) (below l.p.Z)))
+    (l.z ≤ l.p.Z) × (l.n ≤ l.most) × (l.n + l.z ≤ l.p.Z)
+    × (min l.most (l.n + tally (free_by l.p l.pointers l.offline l.drive) (below l.z)) ≡ min l.most (tally (free_by l.p l.pointers l.offline l.drive) (below l.p.Z)))
 
 abbrev pub decreases-loop-z : goal.decreases-loop-z
 decreases-loop-z l = l.z

@@ -28,7 +28,11 @@ overflow_add-z c =
 pub good_among-n-requires : goal.good_among-n-requires
 good_among-n-requires c =
     let l = c.loop-z in
-    let e = c.lower-end.ensures in record { p_value = c.requires.p_value; offline_len = (c.requires.offline_len.0, c.requires.offline_len.1, omega (arith, e, l.invariant.0), omega (arith, e), omega (arith, e)) }
+    let e = c.lower-end.ensures in record {
+      p_value = c.requires.p_value;
+      offline_len =
+          (c.requires.offline_len.0, c.requires.offline_len.1, omega (arith, e, l.invariant.0), omega (arith, e), omega (arith, e));
+    }
 
 -- at most Z are counted
 pub overflow_add-n : goal.overflow_add-n

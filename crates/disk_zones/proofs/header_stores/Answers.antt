@@ -61,7 +61,13 @@ put_header-requires c =
     let k₀ = mk_disk a.image.now a.pointers.now in
     let k = mk_disk l.image l.pointers in
     let f = header_store p a.segment a.serial.0 a.copied.0 in
-    let z = zone_on_holds.ensures in record { p_value = pre.p_value; whole = record { image_long = l.invariant.0 ∙ w.image_long; pointers_long = l.invariant.1 ∙ w.pointers_long }; drive_lt_n = (if1.true, rw z (low_here p a.segment l.d g.0 if1.true), rw z (l.invariant.2 l.d (omega arith) if1.true)) }
+    let z = zone_on_holds.ensures in record {
+      p_value = pre.p_value;
+      whole =
+          record { image_long = l.invariant.0 ∙ w.image_long; pointers_long = l.invariant.1 ∙ w.pointers_long };
+      drive_lt_n =
+          (if1.true, rw z (low_here p a.segment l.d g.0 if1.true), rw z (l.invariant.2 l.d (omega arith) if1.true));
+    }
 
 pub overflow_sub-left : goal.overflow_sub-left
 overflow_sub-left c = omega arith

@@ -17,12 +17,15 @@ returns-then-has_drive c =
 pub pointer-requires : goal.pointer-requires
 pointer-requires c =
     let a = c.args in
-    let pre = c.requires in record { p_value = pre.p_value; pointers_len = (
+    let pre = c.requires in record {
+      p_value = pre.p_value;
+      pointers_len = (
         pre.pointers_len.0,
         pre.pointers_len.1,
         rw c.zone_on-zone.ensures (low_zone a.p a.gone a.segment a.drive pre.pointers_len.2 pre.pointers_len.1 (sym c.has_drive.ensures
             ∙ c.if-has_drive.false)),
-      ) }
+      );
+    }
 
 pub returns : goal.returns
 returns c =

@@ -65,4 +65,9 @@ returns c =
     let l = c.loop-d in
     let f : ℕ → ℕ = λ c. first_or 0 (keep (free_by a.p a.pointers.now a.offline.now c) (below a.p.Z)) in
     let n : l.d ≡ a.p.N = omega (arith, l.invariant.0, c.loop-d-test.false) in
-    let s = ap (λ (x : List ℕ). seg x) (l.invariant.1 ∙ ap (filled_to f) n) ∙ filled_with a.p f in record { by_index = (λ im h. s ∙ sym (new_seg_holds a.p a.offline.now im a.pointers.now h c.requires.pointers_len.0)); zones_low = with_low a.p f 0 (seg l.zones) s (λ x hx q. l.invariant.2 x (subst (λ (m : ℕ). x < m) (sym n) hx)) }
+    let s = ap (λ (x : List ℕ). seg x) (l.invariant.1 ∙ ap (filled_to f) n)
+    ∙ filled_with a.p f in record {
+      by_index = (λ im h. s ∙ sym (new_seg_holds a.p a.offline.now im a.pointers.now h c.requires.pointers_len.0));
+      zones_low =
+          with_low a.p f 0 (seg l.zones) s (λ x hx q. l.invariant.2 x (subst (λ (m : ℕ). x < m) (sym n) hx));
+    }

@@ -22,4 +22,8 @@ pub returns : goal.returns
 returns c =
     let a = c.args in
     let low = c.lower-end.ensures.upper_bound in
-    let all! = c.lower.ensures.upper_bound in record { by_index = (λ o. c.lower.ensures.by_index o ∙ (λ j. c.lower-end.ensures.by_index o j && below_pointer o a.pointer c.if-pointer-eq0.false j)); upper_bound = (omega (arith, low.0, all!.0), omega (arith, low.1, all!.0)) }
+    let all! = c.lower.ensures.upper_bound in
+    record {
+      by_index = (λ o. c.lower.ensures.by_index o ∙ (λ j. c.lower-end.ensures.by_index o j && below_pointer o a.pointer c.if-pointer-eq0.false j));
+      upper_bound = (omega (arith, low.0, all!.0), omega (arith, low.1, all!.0));
+    }

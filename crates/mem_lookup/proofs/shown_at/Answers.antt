@@ -139,7 +139,16 @@ returns-then-compact-row c =
     let l : List ℕ → List ℕ → List ℕ = λ off im. shown_at a.p (view_of a.p off im a.pointers.now) a.compact.now a.drive a.zone a.s in
     let lt : o < a.p.S = omega (arith, loop-test.true, group-end.ensures.upper_bound.1) in
     let gt : o < m = omega (arith, loop-test.true, group-end.ensures.upper_bound.0) in
-    let hit : f o ≡ true = entry_at (goal.at.returns-then-compact-row c).In-loop-o ∙ eq-eqb (get_or a.compact.now (compact_at_holds.result + o) 0) compact-entry.result c.if-compact-row.true in record { by_index = (λ off im h. (search_hit f o m a.p.S (l off im) (loop.invariant ∙ shown-all (goal.at.returns-then-compact-row c).After-group_end-end off im h) gt hit).0); by_index_2 = (λ off im h. ne_eqb o a.p.S (λ q. omega arith) ∙ sym (search_hit f o m a.p.S (l off im) (loop.invariant ∙ shown-all (goal.at.returns-then-compact-row c).After-group_end-end off im h) gt hit).1); upper_bound = omega arith }
+    let hit : f o ≡ true = entry_at (goal.at.returns-then-compact-row c).In-loop-o
+    ∙ eq-eqb (get_or a.compact.now (compact_at_holds.result + o) 0) compact-entry.result c.if-compact-row.true in
+    record {
+      by_index = (λ off im h. (search_hit f o m a.p.S (l off im)
+          (loop.invariant ∙ shown-all (goal.at.returns-then-compact-row c).After-group_end-end off im h) gt hit).0);
+      by_index_2 =
+          (λ off im h. ne_eqb o a.p.S (λ q. omega arith)
+          ∙ sym (search_hit f o m a.p.S (l off im) (loop.invariant ∙ shown-all (goal.at.returns-then-compact-row c).After-group_end-end off im h) gt hit).1);
+      upper_bound = omega arith;
+    }
 
 pub overflow_add-o : goal.overflow_add-o
 overflow_add-o c = omega (arith, c.loop-o-test.true)
@@ -176,4 +185,10 @@ returns c =
     let l : List ℕ → List ℕ → List ℕ = λ off im. shown_at a.p (view_of a.p off im a.pointers.now) a.compact.now a.drive a.zone a.s in
     let past : (k : ℕ) → o ≤ k → k < m → f k ≡ false =
     λ k g h. shows-past a.p pointer.result a.compact.now a.drive a.zone a.s group-end.result m group-end.ensures.by_index k
-    (omega (arith, c.loop-o-test.false)) h in record { by_index = (λ off im h. (search_end f o m a.p.S (l off im) (c.loop-o.invariant ∙ shown-all (goal.at.returns c).After-group_end-end off im h) past).0); by_index_2 = (λ off im h. eq-eqb a.p.S a.p.S refl ∙ sym (search_end f o m a.p.S (l off im) (c.loop-o.invariant ∙ shown-all (goal.at.returns c).After-group_end-end off im h) past).1); upper_bound = omega arith }
+    (omega (arith, c.loop-o-test.false)) h in
+    record {
+      by_index = (λ off im h. (search_end f o m a.p.S (l off im) (c.loop-o.invariant ∙ shown-all (goal.at.returns c).After-group_end-end off im h) past).0);
+      by_index_2 = (λ off im h. eq-eqb a.p.S a.p.S refl
+          ∙ sym (search_end f o m a.p.S (l off im) (c.loop-o.invariant ∙ shown-all (goal.at.returns c).After-group_end-end off im h) past).1);
+      upper_bound = omega arith;
+    }

@@ -21,7 +21,8 @@ use Rattle.mem_lookup.proofs.shown_at.Given as goal
 
 abbrev pub invariant-loop-o : goal.invariant-loop-o
 invariant-loop-o l =
-    keep (shows l.p l.pointer l.compact l.drive l.zone l.s) (up_from l.o (l.first + l.p.G - l.o)) ≡ keep (shows l.p l.pointer l.compact l.drive l.zone l.s) (up_from l.first (l.first + l.p.G - l.first))
+    keep (shows l.p l.pointer l.compact l.drive l.zone l.s) (up_from l.o (l.first + l.p.G - l.o)) ≡ keep (shows l.p l.pointer l.compact l.drive l.zone l.s)
+    (up_from l.first (l.first + l.p.G - l.first))
 
 abbrev pub decreases-loop-o : goal.decreases-loop-o
 decreases-loop-o l = l.end - l.o

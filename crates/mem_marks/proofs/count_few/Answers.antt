@@ -36,8 +36,10 @@ loop-k-preserved c =
     let t = c.loop-k-test.true in
     let f : ℕ → Bool = is_marked a.marks.now in
     let e = c.is_marked.ensures in
-    elim c.if-is_marked.branch [ then-is_marked w ↦ (omega arith, omega arith, omega (arith, kept-one f l.k a.hi l.n t (sym e ∙ w.if-is_marked.true), l.invariant.2), omega arith)
-    | else-is_marked w ↦ (omega arith, omega arith, omega (arith, kept_none f l.k a.hi l.n t (sym e ∙ w.if-is_marked.false), l.invariant.2), omega arith) ]
+    elim c.if-is_marked.branch [
+      | then-is_marked w ↦ (omega arith, omega arith, omega (arith, kept-one f l.k a.hi l.n t (sym e ∙ w.if-is_marked.true), l.invariant.2), omega arith)
+      | else-is_marked w ↦ (omega arith, omega arith, omega (arith, kept_none f l.k a.hi l.n t (sym e ∙ w.if-is_marked.false), l.invariant.2), omega arith)
+    ]
 
 pub returns : goal.returns
 returns c =

@@ -68,4 +68,9 @@ pub returns : goal.returns
 returns c =
     let s = c.args in
     let l = c.loop-a in
-    let e : l.a ≡ s.n = omega arith in record { by_index = (λ q x y. l.invariant.2 q x y ∙ ap (λ (k : ℕ). is_pointed s.addresses.now k q || is_marked s.marks.now (q - s.first)) e); value = l.invariant.3 ∙ ap (λ (k : ℕ). count_places s.addresses.now k s.end 4294967295) e }
+    let e : l.a ≡ s.n = omega arith in record {
+      by_index =
+          (λ q x y. l.invariant.2 q x y ∙ ap (λ (k : ℕ). is_pointed s.addresses.now k q || is_marked s.marks.now (q - s.first)) e);
+      value = l.invariant.3
+          ∙ ap (λ (k : ℕ). count_places s.addresses.now k s.end 4294967295) e;
+    }

@@ -13,6 +13,9 @@ returns c =
     let s = c.args in
     let clear = c.clear in
     let m = c.mark_places.ensures in
-    let e = clear.ensures in record { marks = (λ q x y. m.by_index q x y
+    let e = clear.ensures in record {
+      marks = (λ q x y. m.by_index q x y
           ∙ ap (λ (b : Bool). is_pointed s.addresses.now s.n q || b) (ap (λ (l : List ℕ). is_marked l (q - s.first)) e ∙ marked_none (length s.marks.now) (q - s.first))
-          ∙ or-false (is_pointed s.addresses.now s.n q)); value = m.value }
+          ∙ or-false (is_pointed s.addresses.now s.n q));
+      value = m.value;
+    }

@@ -65,9 +65,9 @@ cell_is :
     c.before.before.before.before.before.before.before.args.address.0 c.before.before.before.before.before.before.before.args.stamp.0
     (8 * c.before.before.before.before.before.before.before.args.i + c.before.before.before.loop-k.k)
 cell_is c =
-    let at_wide = c.before.before.before.before in
-    let start = c.before.before.before.before.before.before.before in
     let at_loop_k = c.before.before.before in
+    let at_wide = at_loop_k.before in
+    let start = at_wide.before.before.before in
     let a = start.args in
     let l = at_loop_k.loop-k in
     let g = filled_is at_wide in

@@ -29,7 +29,8 @@ shown_at-o-requires c =
     let pr : is_in a.gone a.drive ≡ false = sym c.has_drive.ensures ∙ c.if-has_drive.false in
     let hz : c.zone_on-zone.result < a.p.Z =
     subst (λ (x : ℕ). x < a.p.Z) (sym c.zone_on-zone.ensures)
-    (counted_zone_low a.p r v a.gone q.ground.here a.compact.now a.segment a.s q.ground.clean q.drive_lt_n.1 a.drive q.drive_lt_n.0 pr) in record { p_value = q.ground.in_range_holds; pointers_len = (q.ground.whole.pointers_long, q.ground.compact_long); drive_lt_n = (q.drive_lt_n.0, hz, q.drive_lt_n.1.stripe_low) }
+    (counted_zone_low a.p r v a.gone q.ground.here a.compact.now a.segment a.s q.ground.clean q.drive_lt_n.1 a.drive q.drive_lt_n.0 pr) in
+    record { p_value = q.ground.in_range_holds; pointers_len = (q.ground.whole.pointers_long, q.ground.compact_long); drive_lt_n = (q.drive_lt_n.0, hz, q.drive_lt_n.1.stripe_low) }
 
 pub record_in-r-requires : goal.record_in-r-requires
 record_in-r-requires c =
@@ -47,7 +48,8 @@ record_in-r-requires c =
     shown_there a.p r v a.gone q.ground.here a.compact.now a.segment a.s q.ground.clean q.drive_lt_n.1 a.drive q.drive_lt_n.0 pr c.shown_at-o.result
     (c.shown_at-o.ensures.by_index a.offline.now a.image.now q.ground.whole.image_long ∙ ap (λ (z : ℕ). first_or a.p.S (shown_at a.p v a.compact.now a.drive z a.s)) ez) in
     let ho : c.shown_at-o.result < a.p.S =
-    subst (λ (x : ℕ). x < a.p.S) (sym eo) (offset_low a.p r v a.gone q.ground.here a.compact.now a.segment a.s q.ground.clean q.drive_lt_n.1 a.drive q.drive_lt_n.0 pr) in record { p_value = q.ground.in_range_holds; image_len = (q.ground.whole.image_long, q.drive_lt_n.0, hz, ho) }
+    subst (λ (x : ℕ). x < a.p.S) (sym eo) (offset_low a.p r v a.gone q.ground.here a.compact.now a.segment a.s q.ground.clean q.drive_lt_n.1 a.drive q.drive_lt_n.0
+    pr) in record { p_value = q.ground.in_range_holds; image_len = (q.ground.whole.image_long, q.drive_lt_n.0, hz, ho) }
 
 pub returns : goal.returns
 returns c =

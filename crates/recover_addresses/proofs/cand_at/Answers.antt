@@ -43,7 +43,8 @@ offline_at-requires c =
     let v : View = view_of a.p a.offline.now a.image.now a.pointers.now in
     let (h, k, e, x) = q.has_cand in
     let l : place_drive a.p a.place.0 < a.p.N =
-    subst (λ (y : ℕ). place_drive a.p y < a.p.N) e (lies_place_drive_low a.p (ranged a.p q.ground.in_range_holds) v a.gone q.ground.here q.ground.apart h k.0) in record { p_value = q.ground.in_range_holds; drive_lt_n = (subst (λ (y : ℕ). y < a.p.N) (sym c.place_drive-drive.ensures.0) l, c.place_zone-zone.ensures.1) }
+    subst (λ (y : ℕ). place_drive a.p y < a.p.N) e (lies_place_drive_low a.p (ranged a.p q.ground.in_range_holds) v a.gone q.ground.here q.ground.apart h k.0) in
+    record { p_value = q.ground.in_range_holds; drive_lt_n = (subst (λ (y : ℕ). y < a.p.N) (sym c.place_drive-drive.ensures.0) l, c.place_zone-zone.ensures.1) }
 
 -- the index is that of the place's zone
 index :
@@ -55,9 +56,9 @@ index :
     + place_zone c.before.before.before.before.before.before.before.before.before.before.before.before.args.p
     c.before.before.before.before.before.before.before.before.before.before.before.before.args.place.0
 index c =
-    let start = c.before.before.before.before.before.before.before.before.before.before.before.before in
-    let at_place_drive_drive = c.before.before.before.before in
     let at_place_zone_zone = c.before.before.before in
+    let at_place_drive_drive = at_place_zone_zone.before in
+    let start = at_place_drive_drive.before.before.before.before.before.before.before.before in
     let a = start.args in
     c.before.offline_at.ensures.0
     ∙ ap₂ (λ (d z : ℕ). d * a.p.Z + z) at_place_drive_drive.place_drive-drive.ensures.0 at_place_zone_zone.place_zone-zone.ensures.0
@@ -106,7 +107,9 @@ stamp_at-stamp-requires c =
     let r : Ranged a.p = ranged a.p q.ground.in_range_holds in
     let (h, k, e, x) = q.has_cand in
     let o = owner_row a.p r v a.gone q.ground.here q.ground.apart h k.0 a.owners.now q.gathered.owners_are a.place.0
-    (get_or a.owners.now c.offline_at.result 0) e (ap (λ (i : ℕ). get_or a.owners.now i 0) (index c.before.before)) in record { ground = q.ground; somewhere = (
+    (get_or a.owners.now c.offline_at.result 0) e (ap (λ (i : ℕ). get_or a.owners.now i 0) (index c.before.before)) in record {
+      ground = q.ground;
+      somewhere = (
         k.0.stripe,
         lies_same a.p v a.gone a.compact.now (place_drive a.p a.place.0) k.0.of (place_block a.p a.place.0 - 1) k.0.stripe
             c.place_drive-drive.result row.result (c.place_block-offset.result - 1)
@@ -114,7 +117,8 @@ stamp_at-stamp-requires c =
             (row.ensures ∙ o.row_is a.rows.now q.gathered.rows_are)
             (ap (λ (y : ℕ). y - 1) c.place_block-offset.ensures.0)
             (place_lies a.p r v a.gone q.ground.here q.ground.apart h k.0 a.compact.now k.1 a.place.0 e),
-      ) }
+      );
+    }
 
 pub offset_bounds-serials-z : goal.offset_bounds-serials-z
 offset_bounds-serials-z c =

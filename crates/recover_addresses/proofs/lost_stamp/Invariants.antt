@@ -13,7 +13,8 @@ use Rattle.recover_addresses.proofs.lost_stamp.Given as goal
 
 abbrev pub invariant-loop-d : goal.invariant-loop-d
 invariant-loop-d l =
-    (l.d ≤ l.p.N) × (l.t.0 ≡ xor_all (map (λ e. (stored_rec (segment_of l.p (view_of l.p l.offline l.image l.pointers) l.gone l.segment) l.s e).stamp) (keep (λ e. not (is_in l.gone e)) (below l.d))))
+    (l.d ≤ l.p.N) × (l.t.0 ≡ xor_all (map (λ e. (stored_rec (segment_of l.p (view_of l.p l.offline l.image l.pointers) l.gone l.segment) l.s e).stamp)
+    (keep (λ e. not (is_in l.gone e)) (below l.d))))
 
 abbrev pub decreases-loop-d : goal.decreases-loop-d
 decreases-loop-d l = l.p.N - l.d

@@ -51,10 +51,14 @@ cand_at-h-requires c =
     let place_at = c.place_at-place in
     let if1 = c.if-p-address in
     let v : View = view_of a.p a.offline.now a.image.now a.pointers.now in
-    let e = place_at.ensures in record { ground = q.ground; gathered = q.gathered; has_cand = subst (λ (x : ℕ). HasCand a.p v a.gone a.compact.now a.c.address.0 x) (sym e)
-            (told_placed a.p (ranged a.p q.ground.in_range_holds) v a.gone q.ground.here q.ground.apart a.compact.now a.addresses.now q.known.0 q.known.1 a.c.address.0
-            if1.false
-            (λ x. c.if-place.false (e ∙ x))) }
+    let e = place_at.ensures in record {
+      ground = q.ground;
+      gathered = q.gathered;
+      has_cand = subst (λ (x : ℕ). HasCand a.p v a.gone a.compact.now a.c.address.0 x) (sym e)
+          (told_placed a.p (ranged a.p q.ground.in_range_holds) v a.gone q.ground.here q.ground.apart a.compact.now a.addresses.now q.known.0 q.known.1 a.c.address.0
+          if1.false
+          (λ x. c.if-place.false (e ∙ x)));
+    }
 
 pub set_place-requires-then-beats : goal.set_place-requires-then-beats
 set_place-requires-then-beats c =

@@ -14,18 +14,26 @@ pub is_sealed-full-requires : goal.is_sealed-full-requires
 is_sealed-full-requires c =
     let a = c.args in
     let q = c.requires in
-    let v : View = view_of a.p a.offline.now a.image.now a.pointers.now in record { p_value = q.ground.in_range_holds; pointers_len = (q.ground.whole.pointers_long, counted_segment_low a.p v a.gone q.ground.here a.compact.now a.segment q.somewhere.0 q.somewhere.1.counted) }
+    let v : View = view_of a.p a.offline.now a.image.now a.pointers.now in
+    record {
+      p_value = q.ground.in_range_holds;
+      pointers_len =
+          (q.ground.whole.pointers_long, counted_segment_low a.p v a.gone q.ground.here a.compact.now a.segment q.somewhere.0 q.somewhere.1.counted);
+    }
 
 pub lost_stamp-requires : goal.lost_stamp-requires
 lost_stamp-requires c =
     let a = c.args in
     let q = c.requires in
     let r : Ranged a.p = ranged a.p q.ground.in_range_holds in
-    let v : View = view_of a.p a.offline.now a.image.now a.pointers.now in record { ground = q.ground; stripe_counts = (
+    let v : View = view_of a.p a.offline.now a.image.now a.pointers.now in record {
+      ground = q.ground;
+      stripe_counts = (
         away_counted a.p r v a.gone a.compact.now a.drive a.segment a.offset q.somewhere.0 q.somewhere.1
             (sym c.has_drive.ensures ∙ c.if-has_drive.true),
         c.is_sealed-full.ensures a.offline.now a.image.now q.ground.whole.image_long,
-      ) }
+      );
+    }
 
 pub returns-then-has_drive : goal.returns-then-has_drive
 returns-then-has_drive c =
@@ -52,7 +60,8 @@ record_in-r-requires c =
     subst (λ (x : ℕ). x < a.p.Z) (sym c.zone_on-zone.ensures)
     (counted_zone_low a.p r v a.gone q.ground.here a.compact.now a.segment q.somewhere.0 q.ground.clean k.counted a.drive k.drive_low pr) in
     let ho : a.offset < a.p.S = subst (λ (x : ℕ). x < a.p.S) (sym (lies_here a.p r v a.gone a.compact.now a.drive a.segment a.offset q.somewhere.0 k pr))
-    (offset_low a.p r v a.gone q.ground.here a.compact.now a.segment q.somewhere.0 q.ground.clean k.counted a.drive k.drive_low pr) in record { p_value = q.ground.in_range_holds; image_len = (q.ground.whole.image_long, k.drive_low, hz, ho) }
+    (offset_low a.p r v a.gone q.ground.here a.compact.now a.segment q.somewhere.0 q.ground.clean k.counted a.drive k.drive_low pr) in
+    record { p_value = q.ground.in_range_holds; image_len = (q.ground.whole.image_long, k.drive_low, hz, ho) }
 
 pub returns : goal.returns
 returns c =

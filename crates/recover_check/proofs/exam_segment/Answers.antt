@@ -30,7 +30,9 @@ returns-then-not-kept-z c =
     let p = a.p in
     let m = c.requires.z_lt_z in
     let v = view_of p a.offline.now a.image.now a.pointers.now in
-    let f = sym (c.requires.arrays.keeps.1 a.z m.0) ∙ not-true (get_or a.kept.now a.z false) c.if-not-kept-z.true-raw in record { zone_value = (λ q. absurd (not_both (faulty p v a.gone a.z) q (faulty_gone p v a.gone a.z f))); exam_says = λ _. seen_gone p v a.gone a.z a.e m.2 f }
+    let f = sym (c.requires.arrays.keeps.1 a.z m.0)
+    ∙ not-true (get_or a.kept.now a.z false) c.if-not-kept-z.true-raw in
+    record { zone_value = (λ q. absurd (not_both (faulty p v a.gone a.z) q (faulty_gone p v a.gone a.z f))); exam_says = λ _. seen_gone p v a.gone a.z a.e m.2 f }
 
 pub row-segment-requires : goal.row-segment-requires
 row-segment-requires c =
@@ -72,12 +74,17 @@ segment_fault-requires c =
     let g = c.row-segment.result in
     let i = c.row-segment.ensures in
     let k = not-false (get_or a.kept.now a.z false) c.if-not-kept-z.false-raw in
-    let s = c.is_sealed-full.ensures a.offline.now a.image.now w.0.image_long in record { p_value = c.requires.p_value; whole = (w.0, w.1, q.here); name_counts = (
-            q.named,
-            row_there p v a.gone a.kept.now a.serials.now a.rows.now a.repeats.now a.counts.now q a.z m.0 k g i,
-            flag_serial p v a.gone a.kept.now a.serials.now a.rows.now a.repeats.now a.counts.now q a.z m.0 k g i,
-            flag_repeat p v a.gone a.kept.now a.serials.now a.rows.now a.repeats.now a.counts.now q a.z m.0 k g i,
-          ); full_value = (s, m.1) }
+    let s = c.is_sealed-full.ensures a.offline.now a.image.now w.0.image_long in record {
+      p_value = c.requires.p_value;
+      whole = (w.0, w.1, q.here);
+      name_counts = (
+        q.named,
+        row_there p v a.gone a.kept.now a.serials.now a.rows.now a.repeats.now a.counts.now q a.z m.0 k g i,
+        flag_serial p v a.gone a.kept.now a.serials.now a.rows.now a.repeats.now a.counts.now q a.z m.0 k g i,
+        flag_repeat p v a.gone a.kept.now a.serials.now a.rows.now a.repeats.now a.counts.now q a.z m.0 k g i,
+      );
+      full_value = (s, m.1);
+    }
 
 -- whether it is faulty
 fault : (c : After-segment_fault)
@@ -104,7 +111,9 @@ returns-then-segment_fault c =
     let v = view_of a.p a.offline.now a.image.now a.pointers.now in
     let x = segment_of a.p v a.gone c.row-segment.result in
     let z : faulty a.p v a.gone a.z ≡ true =
-    fault (goal.at.returns-then-segment_fault c).After-segment_fault ∙ ap (λ (o : Bool). o || (stripe_fault a.p a.gone x || address_fault a.p a.gone x)) c.if-segment_fault.true in record { zone_value = (λ _. c.exam_bad.ensures); exam_says = λ q. absurd (not_both (faulty a.p v a.gone a.z) z q) }
+    fault (goal.at.returns-then-segment_fault c).After-segment_fault
+    ∙ ap (λ (o : Bool). o || (stripe_fault a.p a.gone x || address_fault a.p a.gone x)) c.if-segment_fault.true in
+    record { zone_value = (λ _. c.exam_bad.ensures); exam_says = λ q. absurd (not_both (faulty a.p v a.gone a.z) z q) }
 
 pub survey-t-requires : goal.survey-t-requires
 survey-t-requires c = record { p_value = c.requires.p_value; whole = c.requires.whole.0; at_len = (c.requires.z_lt_z.3, low (goal.at.survey-t-requires c).After-row-segment) }
@@ -131,7 +140,8 @@ returns-then-t c =
     let u = surveyed (goal.at.returns-then-t c).After-survey-t in
     let z : faulty a.p v a.gone a.z ≡ true =
     fault (goal.at.returns-then-t c).After-segment_fault
-    ∙ ap (λ (o : Bool). o || (stripe_fault a.p a.gone x || address_fault a.p a.gone x)) if2.false ∙ sym u.bad_is ∙ c.if-t.true in record { zone_value = (λ _. c.exam_bad-then-t.ensures); exam_says = λ q. absurd (not_both (faulty a.p v a.gone a.z) z q) }
+    ∙ ap (λ (o : Bool). o || (stripe_fault a.p a.gone x || address_fault a.p a.gone x)) if2.false ∙ sym u.bad_is
+    ∙ c.if-t.true in record { zone_value = (λ _. c.exam_bad-then-t.ensures); exam_says = λ q. absurd (not_both (faulty a.p v a.gone a.z) z q) }
 
 pub exam_good-requires : goal.exam_good-requires
 exam_good-requires c =
@@ -143,16 +153,19 @@ exam_good-requires c =
     let u = surveyed (goal.at.exam_good-requires c).After-survey-t in
     let d = c.if-t.false in
     let w = seen_fits p v a.gone a.z a.e m.2 in
-    let r = (ranged p c.requires.p_value).stripes_high in record { loose_bound = (
+    let r = (ranged p c.requires.p_value).stripes_high in record {
+      loose_bound = (
         loose_sum_fits p a.z a.e.loose c.requires.p_value m.0 w.0,
         loose_sum_fits p a.z a.e.counted c.requires.p_value m.0 w.1,
         loose_sum_fits p a.z a.e.top c.requires.p_value m.0 w.2,
         loose_sum_fits p a.z a.e.part c.requires.p_value m.0 w.3,
-      ); loose_bound_2 = (
+      );
+      loose_bound_2 = (
         omega (arith, u.loose_is d, uncounted_most p a.gone x, r),
         omega (arith, u.counted_is d, counted-low p a.gone x, r),
         omega (arith, u.top_is d, top_most p a.gone x, r),
-      ) }
+      );
+    }
 
 pub shape_of-at : goal.shape_of-at
 shape_of-at c = c.survey-t.auto.at
@@ -179,5 +192,8 @@ returns c =
     let i = row_is_seg p v gone a.kept.now a.serials.now a.rows.now a.repeats.now a.counts.now q a.z m.0 k g row.ensures in
     let s = is-sealed.ensures a.offline.now a.image.now c.requires.whole.0.image_long ∙ ap (sealed_in p v gone) i in
     let z : faulty p v gone a.z ≡ false =
-    fault (goal.at.returns c).After-segment_fault ∙ ap (λ (o : Bool). o || (stripe_fault p gone x || address_fault p gone x)) if2.false ∙ sym u.bad_is ∙ d in record { zone_value = (λ y. absurd (not_both (faulty p v gone a.z) y z)); exam_says = (λ _. subst (ExamSays p v gone (a.z + 1)) (sym c.exam_good.ensures)
-          (seen-added p v gone a.z a.e m.2 is-sealed.result survey.result (subst (λ (y : Seg). Surveyed p gone (segment_of p v gone y) survey.result) i u) d r s)) }
+    fault (goal.at.returns c).After-segment_fault ∙ ap (λ (o : Bool). o || (stripe_fault p gone x || address_fault p gone x)) if2.false ∙ sym u.bad_is ∙ d in record {
+      zone_value = (λ y. absurd (not_both (faulty p v gone a.z) y z));
+      exam_says = (λ _. subst (ExamSays p v gone (a.z + 1)) (sym c.exam_good.ensures)
+          (seen-added p v gone a.z a.e m.2 is-sealed.result survey.result (subst (λ (y : Seg). Surveyed p gone (segment_of p v gone y) survey.result) i u) d r s));
+    }

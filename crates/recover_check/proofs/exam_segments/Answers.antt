@@ -17,7 +17,13 @@ loop-z-init c =
 
 pub exam_segment-e-requires : goal.exam_segment-e-requires
 exam_segment-e-requires c =
-    let l = c.loop-z in record { p_value = c.requires.p_value; whole = c.requires.whole; arrays = c.requires.arrays; z_lt_z = (c.loop-z-test.true, c.requires.many_value.0, l.invariant.2, l.invariant.1 ∙ c.requires.many_value.1) }
+    let l = c.loop-z in record {
+      p_value = c.requires.p_value;
+      whole = c.requires.whole;
+      arrays = c.requires.arrays;
+      z_lt_z =
+          (c.loop-z-test.true, c.requires.many_value.0, l.invariant.2, l.invariant.1 ∙ c.requires.many_value.1);
+    }
 
 pub shape_of-at-then-e-p : goal.shape_of-at-then-e-p
 shape_of-at-then-e-p c =

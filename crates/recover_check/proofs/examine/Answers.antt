@@ -30,12 +30,17 @@ exam_segments-requires c =
     let f = c.repeats in
     let long = f.auto.out in
     let n = c.name_counts.ensures a.offline.now a.pointers.now w.0.pointers_long q.0 in
-    let u = c.unsealed_count-many.ensures.by_index a.offline.now a.image.now w.0.image_long q.0 q.2 in record { p_value = c.requires.p_value; whole = (w.0, w.1); arrays = record {
-            here = w.2;
-            keeps = q.0;
-            serials = q.1;
-            zones = q.2;
-            repeated_long = omega (arith, long, (ranged a.p c.requires.p_value).zones_high);
-            repeated = f.ensures;
-            named = n;
-          }; many_value = (ap (leb 2) u, refl) }
+    let u = c.unsealed_count-many.ensures.by_index a.offline.now a.image.now w.0.image_long q.0 q.2 in record {
+      p_value = c.requires.p_value;
+      whole = (w.0, w.1);
+      arrays = record {
+        here = w.2;
+        keeps = q.0;
+        serials = q.1;
+        zones = q.2;
+        repeated_long = omega (arith, long, (ranged a.p c.requires.p_value).zones_high);
+        repeated = f.ensures;
+        named = n;
+      };
+      many_value = (ap (leb 2) u, refl);
+    }

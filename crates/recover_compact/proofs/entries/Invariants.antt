@@ -15,7 +15,8 @@ use Rattle.recover_compact.proofs.entries.Given as goal
 abbrev pub invariant-loop-o : goal.invariant-loop-o
 invariant-loop-o l =
     (l.o ≤ l.n) × (l.base ≤ l.o) × (l.base % l.p.G ≡ 0) × (length l.compact ≡ length l.initial.compact)
-    × ((off ps : List ℕ) → length ps ≡ pointers_len l.p → l.compact ≡ splice l.initial.compact l.row (map (entry_said l.p l.full (zone_at (view_of l.p off l.image ps) l.drive l.zone)) (below l.o)))
+    × ((off ps : List ℕ) → length ps ≡ pointers_len l.p
+    → l.compact ≡ splice l.initial.compact l.row (map (entry_said l.p l.full (zone_at (view_of l.p off l.image ps) l.drive l.zone)) (below l.o)))
 
 abbrev pub decreases-loop-o : goal.decreases-loop-o
 decreases-loop-o l = l.n - l.o

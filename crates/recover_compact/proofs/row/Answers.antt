@@ -19,7 +19,8 @@ compact_at-at-requires c = record { p_value = c.requires.p_value; drive_lt_n = (
 pub entries-requires : goal.entries-requires
 entries-requires c =
     let q = c.requires.compact_len in
-    let f = row_fits c.args.p c.args.drive c.args.zone q.1 q.2 in record { p_value = c.requires.p_value; image_len = (c.requires.whole.image_long, q.1, q.2, c.data_stored-n.ensures.upper_bound, omega (arith, c.compact_at-at.ensures.0, q.0, f)) }
+    let f = row_fits c.args.p c.args.drive c.args.zone q.1 q.2 in
+    record { p_value = c.requires.p_value; image_len = (c.requires.whole.image_long, q.1, q.2, c.data_stored-n.ensures.upper_bound, omega (arith, c.compact_at-at.ensures.0, q.0, f)) }
 
 pub overflow_add-at : goal.overflow_add-at
 overflow_add-at c =

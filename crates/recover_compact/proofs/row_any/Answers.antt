@@ -25,7 +25,8 @@ pub row-requires : goal.row-requires
 row-requires c =
     let a = c.args in
     let q = c.requires.compact_len in
-    let low = low_zone a.p a.gone a.segment a.drive q.2 q.1 (sym c.has_drive.ensures ∙ c.if-has_drive.false) in record { p_value = c.requires.p_value; whole = c.requires.whole; compact_len = (q.0, q.1, subst (λ (n : ℕ). n < a.p.Z) (sym c.zone_on.ensures) low) }
+    let low = low_zone a.p a.gone a.segment a.drive q.2 q.1 (sym c.has_drive.ensures ∙ c.if-has_drive.false) in
+    record { p_value = c.requires.p_value; whole = c.requires.whole; compact_len = (q.0, q.1, subst (λ (n : ℕ). n < a.p.Z) (sym c.zone_on.ensures) low) }
 
 pub returns : goal.returns
 returns c =

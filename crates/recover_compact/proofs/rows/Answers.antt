@@ -23,7 +23,12 @@ loop-d-init c =
 
 pub row_any-requires : goal.row_any-requires
 row_any-requires c =
-    let loop = c.loop-d in record { p_value = c.requires.p_value; whole = c.requires.whole; compact_len = (loop.invariant.1 ∙ c.requires.compact_len.0, c.loop-d-test.true, c.requires.compact_len.1) }
+    let loop = c.loop-d in record {
+      p_value = c.requires.p_value;
+      whole = c.requires.whole;
+      compact_len =
+          (loop.invariant.1 ∙ c.requires.compact_len.0, c.loop-d-test.true, c.requires.compact_len.1);
+    }
 
 pub overflow_add-d : goal.overflow_add-d
 overflow_add-d c = omega arith

@@ -44,7 +44,16 @@ put_if-made-requires c =
       long = q.whole.pointers_long;
       full_right = q.by_index off;
       indexed = index-group.ensures.by_index_2 off (q.by_index off) (q.by_index_2 off);
-    } in record { p_value = q.p_value; whole = (l.invariant []).moving.going.whole; lacks = q.lacks; at_len = (index-group.auto.at ∙ h.0, h.1, h.2, k, h.4); by_index = λ off. stripes_read a.p r off a.w a.drive a.count d q.lacks h.1 l.k l.left x (l.invariant off) k index-group.new.at (rd off); by_index_2 = λ off. stripes_fit a.p r off a.w a.drive a.count d q.lacks h.1 l.k l.left x (l.invariant off) k }
+    } in record {
+      p_value = q.p_value;
+      whole = (l.invariant []).moving.going.whole;
+      lacks = q.lacks;
+      at_len = (index-group.auto.at ∙ h.0, h.1, h.2, k, h.4);
+      by_index =
+          λ off. stripes_read a.p r off a.w a.drive a.count d q.lacks h.1 l.k l.left x (l.invariant off) k index-group.new.at (rd off);
+      by_index_2 = λ off. stripes_fit
+          a.p r off a.w a.drive a.count d q.lacks h.1 l.k l.left x (l.invariant off) k;
+    }
 
 pub shape_of-image-then-made : goal.shape_of-image-then-made
 shape_of-image-then-made c =

@@ -23,10 +23,18 @@ put_group-made-requires c =
     let q = c.requires in
     let l = c.loop-base in
     let if1 = c.loop-base-test in
-    let h = if1.true in record { p_value = q.p_value; whole = (l.invariant.1 []).moving.going.whole; lacks = q.lacks; at_len = (l.invariant.0 ∙ q.at_len.0, q.at_len.1, h, (l.invariant.1 []).first, q.at_len.2); by_index = λ off. groups_full a.p (ranged a.p q.p_value) off a.gone a.seg a.drive a.count (mk_disk a.image.now a.pointers.now)
-                  q.lacks q.at_len.1 l.base l.left (mk_disk l.image l.pointers) (l.invariant.1 off) h a.full (q.by_index off); by_index_2 = λ off. groups_sound a.p (ranged a.p q.p_value) off a.gone a.seg a.drive a.count (mk_disk a.image.now a.pointers.now)
-                    q.lacks q.at_len.1 l.base l.left (mk_disk l.image l.pointers) (l.invariant.1 off) h (q.by_index_2 off); by_index_3 = λ off. groups_fit a.p (ranged a.p q.p_value) off a.gone a.seg a.drive a.count (mk_disk a.image.now a.pointers.now)
-                    q.lacks q.at_len.1 l.base l.left (mk_disk l.image l.pointers) (l.invariant.1 off) h }
+    let h = if1.true in record {
+      p_value = q.p_value;
+      whole = (l.invariant.1 []).moving.going.whole;
+      lacks = q.lacks;
+      at_len = (l.invariant.0 ∙ q.at_len.0, q.at_len.1, h, (l.invariant.1 []).first, q.at_len.2);
+      by_index = λ off. groups_full a.p (ranged a.p q.p_value) off a.gone a.seg a.drive a.count (mk_disk a.image.now a.pointers.now)
+          q.lacks q.at_len.1 l.base l.left (mk_disk l.image l.pointers) (l.invariant.1 off) h a.full (q.by_index off);
+      by_index_2 = λ off. groups_sound a.p (ranged a.p q.p_value) off a.gone a.seg a.drive a.count (mk_disk a.image.now a.pointers.now)
+          q.lacks q.at_len.1 l.base l.left (mk_disk l.image l.pointers) (l.invariant.1 off) h (q.by_index_2 off);
+      by_index_3 = λ off. groups_fit a.p (ranged a.p q.p_value) off a.gone a.seg a.drive a.count (mk_disk a.image.now a.pointers.now)
+          q.lacks q.at_len.1 l.base l.left (mk_disk l.image l.pointers) (l.invariant.1 off) h;
+    }
 
 pub shape_of-image-then-made : goal.shape_of-image-then-made
 shape_of-image-then-made c =

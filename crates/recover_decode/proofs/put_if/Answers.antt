@@ -65,15 +65,22 @@ put_lost-requires c =
     let a = c.args in
     let q = c.requires in
     let h = q.at_len in
-    let k = mk_disk a.image.now a.pointers.now in record { p_value = q.p_value; whole = q.whole; lacks = q.lacks; at_len = (
-              h.0,
-              h.1,
-              h.2,
-              h.3,
-              lost_room a.p [] a.w.gone a.drive k a.w.seg (a.w.base + a.k) q.whole q.lacks.drive_low
-                  h.4 (it_counts (goal.at.put_lost-requires c).After-put_lost-arg-2-1 []) (q.by_index_2 []),
-              h.4,
-            ); by_index = q.by_index; by_index_2 = it_counts (goal.at.put_lost-requires c).After-put_lost-arg-2-1 }
+    let k = mk_disk a.image.now a.pointers.now in record {
+      p_value = q.p_value;
+      whole = q.whole;
+      lacks = q.lacks;
+      at_len = (
+        h.0,
+        h.1,
+        h.2,
+        h.3,
+        lost_room a.p [] a.w.gone a.drive k a.w.seg (a.w.base + a.k) q.whole q.lacks.drive_low
+            h.4 (it_counts (goal.at.put_lost-requires c).After-put_lost-arg-2-1 []) (q.by_index_2 []),
+        h.4,
+      );
+      by_index = q.by_index;
+      by_index_2 = it_counts (goal.at.put_lost-requires c).After-put_lost-arg-2-1;
+    }
 
 pub returns : goal.returns
 returns c =
@@ -83,4 +90,5 @@ returns c =
     let k' = mk_disk put-lost.new.image put-lost.new.pointers in
     λ off.
     let g = segment_in a.p off a.image.now a.pointers.now a.w in
-    subst (λ (l : List Store). Storing a.p a.count l k put-lost.result k') (sym (lost_hit a.p a.w.gone a.drive g (a.w.base + a.k) (it_counts (goal.at.returns c).After-put_lost-arg-2-1 off))) (put-lost.ensures off)
+    subst (λ (l : List Store). Storing a.p a.count l k put-lost.result k')
+    (sym (lost_hit a.p a.w.gone a.drive g (a.w.base + a.k) (it_counts (goal.at.returns c).After-put_lost-arg-2-1 off))) (put-lost.ensures off)

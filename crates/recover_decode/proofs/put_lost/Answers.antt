@@ -34,7 +34,15 @@ put_lost_with-requires c =
     let p = args.p in
     let r = ranged p q.p_value in
     let h = q.at_len in
-    let s : List ℕ = replicate 4096 0 in record { p_value = q.p_value; whole = q.whole; lacks = q.lacks; block_len = (length-take-le p.B s r.block_high, h.0, h.1, h.2, h.3, h.4, h.5); by_index = q.by_index; by_index_2 = q.by_index_2 }
+    let s : List ℕ = replicate 4096 0 in record {
+      p_value = q.p_value;
+      whole = q.whole;
+      lacks = q.lacks;
+      block_len =
+          (length-take-le p.B s r.block_high, h.0, h.1, h.2, h.3, h.4, h.5);
+      by_index = q.by_index;
+      by_index_2 = q.by_index_2;
+    }
 
 pub returns : goal.returns
 returns c =

@@ -32,12 +32,22 @@ entered c =
 pub lost_block-requires : goal.lost_block-requires
 lost_block-requires c =
     let q = c.requires in
-    let h = q.block_len in record { p_value = q.p_value; image_len = (q.whole.image_long, h.1, h.2, h.3, q.lacks.drive_low, h.4, h.0); all_entered = entered (goal.at.lost_block-requires c).After-lost_block-arg-1 }
+    let h = q.block_len in record {
+      p_value = q.p_value;
+      image_len = (q.whole.image_long, h.1, h.2, h.3, q.lacks.drive_low, h.4, h.0);
+      all_entered = entered
+          (goal.at.lost_block-requires c).After-lost_block-arg-1;
+    }
 
 pub lost_rec-q-requires : goal.lost_rec-q-requires
 lost_rec-q-requires c =
     let q = c.requires in
-    let h = q.block_len in record { p_value = q.p_value; image_len = (q.whole.image_long, h.1, h.2, h.3, q.lacks.drive_low, h.4); all_entered = entered (goal.at.lost_rec-q-requires c).After-lost_block-arg-1 }
+    let h = q.block_len in record {
+      p_value = q.p_value;
+      image_len = (q.whole.image_long, h.1, h.2, h.3, q.lacks.drive_low, h.4);
+      all_entered = entered
+          (goal.at.lost_rec-q-requires c).After-lost_block-arg-1;
+    }
 
 pub write_record-requires : goal.write_record-requires
 write_record-requires c = sym spare_len_lem
@@ -54,11 +64,16 @@ put_limited-requires c =
     let write-record = c.write_record in
     let lost-block = c.lost_block in
     let h = q.block_len in
-    let z = zone_on_holds.ensures in record { p_value = q.p_value; whole = q.whole; drive_lt_n = (
-            q.lacks.drive_low,
-            subst (λ (x : ℕ). x < a.p.Z) (sym z) h.6,
-            subst (λ (x : ℕ). pointer_of a.p a.pointers.now a.drive x < capacity a.p) (sym z) h.5,
-          ); block_len = (lost-block.auto.block ∙ h.0, write-record.auto.dst ∙ sym spare_len_lem) }
+    let z = zone_on_holds.ensures in record {
+      p_value = q.p_value;
+      whole = q.whole;
+      drive_lt_n = (
+        q.lacks.drive_low,
+        subst (λ (x : ℕ). x < a.p.Z) (sym z) h.6,
+        subst (λ (x : ℕ). pointer_of a.p a.pointers.now a.drive x < capacity a.p) (sym z) h.5,
+      );
+      block_len = (lost-block.auto.block ∙ h.0, write-record.auto.dst ∙ sym spare_len_lem);
+    }
 
 pub returns : goal.returns
 returns c =

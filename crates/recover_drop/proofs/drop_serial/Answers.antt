@@ -20,12 +20,15 @@ loop-i-init c =
 pub drop_zone-made-requires : goal.drop_zone-made-requires
 unfolding offline_len
 drop_zone-made-requires c =
-    let q = c.requires in record { p_value = q.p_value; whole = (
+    let q = c.requires in record {
+      p_value = q.p_value;
+      whole = (
         record { image_long = q.whole.0.image_long; pointers_long = c.loop-i.invariant.long },
         q.whole.1,
         q.whole.2,
         omega (arith, c.loop-i-test.true, c.offline_len-n.ensures.0),
-      ) }
+      );
+    }
 
 pub shape_of-pointers-then-made : goal.shape_of-pointers-then-made
 shape_of-pointers-then-made c = c.drop_zone-made.auto.pointers ∙ c.loop-i.invariant.long ∙ sym

@@ -66,7 +66,9 @@ returns-then-made c =
 
 pub lowest_untaken-at-requires-in-loop-at : goal.lowest_untaken-at-requires-in-loop-at
 lowest_untaken-at-requires-in-loop-at c =
-    let q = c.requires in record { p_value = q.p_value; whole = (
+    let q = c.requires in record {
+      p_value = q.p_value;
+      whole = (
         record {
           image_long = q.whole.0.image_long;
           pointers_long = c.drop_serial-made.auto.pointers
@@ -74,7 +76,8 @@ lowest_untaken-at-requires-in-loop-at c =
         },
         q.whole.1,
         q.drops.0,
-      ) }
+      );
+    }
 
 pub loop-at-smaller : goal.loop-at-smaller
 loop-at-smaller c =

@@ -46,8 +46,11 @@ loop-i-preserved c =
     let n = c.offline_len-n.result in
     let f = untaken_no a.p v a.taken.now in
     let g = serial_no a.p v in
-    elim c.if-is_untaken.branch [ then-is_untaken w ↦ subst (λ (b : ℕ). LeastSo f g n (l.i + 1) b) (sym w.best-is)
-    (least_hit f g n l.i l.best l.invariant t w.lower-best.result (sym e ∙ w.if-is_untaken.true) (w.lower-best.ensures a.offline.now a.pointers.now q.whole.0.pointers_long)) | else-is_untaken w ↦ subst (λ (b : ℕ). LeastSo f g n (l.i + 1) b) (sym w.best-is) (least_miss f g n l.i l.best l.invariant t (sym e ∙ w.if-is_untaken.false)) ]
+    elim c.if-is_untaken.branch [
+      | then-is_untaken w ↦ subst (λ (b : ℕ). LeastSo f g n (l.i + 1) b) (sym w.best-is)
+          (least_hit f g n l.i l.best l.invariant t w.lower-best.result (sym e ∙ w.if-is_untaken.true) (w.lower-best.ensures a.offline.now a.pointers.now q.whole.0.pointers_long))
+      | else-is_untaken w ↦ subst (λ (b : ℕ). LeastSo f g n (l.i + 1) b) (sym w.best-is) (least_miss f g n l.i l.best l.invariant t (sym e ∙ w.if-is_untaken.false))
+    ]
 
 pub returns : goal.returns
 unfolding offline_len

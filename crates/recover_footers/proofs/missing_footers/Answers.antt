@@ -34,7 +34,12 @@ missing_on-made-requires c =
     let e = feet_pointer a.p (ranged a.p pre.p_value) [] a.count a.segment hz k l.d l.left (mk_disk l.image l.pointers) (l.invariant.2 []) l.d
     (omega arith) if1.true pre.whole in
     let z = c.zone_on.ensures in
-    let b = pre.zones_low.1 l.d if1.true in record { p_value = pre.p_value; whole = (l.invariant.2 []).going.whole; drive_lt_n = (if1.true, rw z (low_here a.p a.segment l.d hz if1.true), rw (z, e) b.0, rw (z, e) b.1) }
+    let b = pre.zones_low.1 l.d if1.true in record {
+      p_value = pre.p_value;
+      whole = (l.invariant.2 []).going.whole;
+      drive_lt_n =
+          (if1.true, rw z (low_here a.p a.segment l.d hz if1.true), rw (z, e) b.0, rw (z, e) b.1);
+    }
 
 pub shape_of-image-then-made : goal.shape_of-image-then-made
 shape_of-image-then-made c =

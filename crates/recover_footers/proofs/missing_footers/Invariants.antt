@@ -12,7 +12,8 @@ use Rattle.recover_footers.proofs.missing_footers.Given as goal
 
 abbrev pub invariant-loop-d : goal.invariant-loop-d
 invariant-loop-d l =
-    (length l.image ≡ length l.initial.image) × (length l.pointers ≡ length l.initial.pointers) × ((off : List ℕ) → FeetUpto l.p off l.count l.segment (mk_disk l.initial.image l.initial.pointers) l.d l.left (mk_disk l.image l.pointers))
+    (length l.image ≡ length l.initial.image) × (length l.pointers ≡ length l.initial.pointers)
+    × ((off : List ℕ) → FeetUpto l.p off l.count l.segment (mk_disk l.initial.image l.initial.pointers) l.d l.left (mk_disk l.image l.pointers))
 
 abbrev pub decreases-loop-d : goal.decreases-loop-d
 decreases-loop-d l = l.p.N - l.d

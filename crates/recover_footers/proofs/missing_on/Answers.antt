@@ -13,18 +13,22 @@ footer_stores-requires c =
     let footers = c.footers in
     let footers-stored = c.footers_stored-first in
     let args = c.args in
-    let pre = c.requires in record { p_value = pre.p_value; whole = pre.whole; drive_lt_n = (
-          pre.drive_lt_n.0,
-          pre.drive_lt_n.1,
-          omega (arith, footers.ensures.0, footers-stored.ensures.upper_bound),
-          omega (
-            arith,
-            footers.ensures.0,
-            lack_fits args.p (ranged args.p pre.p_value) [] (mk_disk args.image.now args.pointers.now) args.drive args.zone
-                footers-stored.result pre.drive_lt_n.0 pre.drive_lt_n.1 pre.whole (footers-stored.ensures.by_index [] args.image.now pre.whole.image_long)
-                pre.drive_lt_n.2 pre.drive_lt_n.3,
-          ),
-        ) }
+    let pre = c.requires in record {
+      p_value = pre.p_value;
+      whole = pre.whole;
+      drive_lt_n = (
+        pre.drive_lt_n.0,
+        pre.drive_lt_n.1,
+        omega (arith, footers.ensures.0, footers-stored.ensures.upper_bound),
+        omega (
+          arith,
+          footers.ensures.0,
+          lack_fits args.p (ranged args.p pre.p_value) [] (mk_disk args.image.now args.pointers.now) args.drive args.zone
+              footers-stored.result pre.drive_lt_n.0 pre.drive_lt_n.1 pre.whole (footers-stored.ensures.by_index [] args.image.now pre.whole.image_long)
+              pre.drive_lt_n.2 pre.drive_lt_n.3,
+        ),
+      );
+    }
 
 pub returns : goal.returns
 returns c =

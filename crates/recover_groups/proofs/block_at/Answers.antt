@@ -36,11 +36,14 @@ pub block_byte-requires : goal.block_byte-requires
 block_byte-requires c =
     let args = c.args in
     let pre = c.requires in
-    let f = group_len_fits args.p args.w.base (omega (arith, pre.at_len.2)) in record { p_value = pre.p_value; drive_lt_n = (
+    let f = group_len_fits args.p args.w.base (omega (arith, pre.at_len.2)) in record {
+      p_value = pre.p_value;
+      drive_lt_n = (
         pre.at_len.3,
         rw c.zone_on-zone.ensures pre.at_len.1,
         data_below args.p (ranged args.p pre.p_value) (1 + c.offset_on.result) (omega (arith, f, c.offset_on.ensures.value, pre.entered.0, pre.entered.1)),
-      ) }
+      );
+    }
 
 pub returns : goal.returns
 unfolding unit_len
@@ -49,6 +52,9 @@ returns c =
     let pre = c.requires in
     let zone_on_holds = c.zone_on-zone in
     let offset_on_holds = c.offset_on in
-    let p = a.p in record { b_bound = omega (arith, c.block_byte.ensures.1); by_index = λ off im ps h x.
+    let p = a.p in record {
+      b_bound = omega (arith, c.block_byte.ensures.1);
+      by_index = λ off im ps h x.
           block_read p off im ps a.w a.at.now (ranged p pre.p_value) h x pre.at_len.2 a.k pre.at_len.4 a.drive pre.at_len.3 pre.at_len.1 pre.entered.0
-          ∙ sym (ap (λ (t : ℕ). part t p.B im) (c.block_byte.ensures.0 ∙ (λ j. place_byte p (place_of p a.drive (zone_on_holds.ensures j) (1 + offset_on_holds.ensures.value j))))) }
+          ∙ sym (ap (λ (t : ℕ). part t p.B im) (c.block_byte.ensures.0 ∙ (λ j. place_byte p (place_of p a.drive (zone_on_holds.ensures j) (1 + offset_on_holds.ensures.value j)))));
+    }

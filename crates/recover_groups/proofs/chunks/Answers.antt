@@ -48,23 +48,26 @@ loop-d-preserved c =
     → a.k < group_len p base
     → c.if-has_chunk.n + length (keep (has_chunk g (base + a.k)) (up_from (loop.d + 1) (p.N - (loop.d + 1)))) ≡ length
     (keep (has_chunk g (base + a.k)) (below p.N))) =
-    elim c.if-has_chunk.branch [ then-has_chunk w ↦ (
-      omega (arith, if1.true),
-      omega (arith, w.n-is),
-      λ g base x hk. ap
-          (λ (y : ℕ). y + length (keep (has_chunk g (base + a.k)) (up_from (loop.d + 1) (p.N - (loop.d + 1))))) w.n-is
-          ∙ sym (kept-one (has_chunk g (base + a.k)) loop.d p.N loop.n if1.true
-          (sym (c.has_chunk.ensures.value_2 p g base x if1.true hk) ∙ w.if-has_chunk.true))
-          ∙ loop.invariant.2 g base x hk,
-    ) | else-has_chunk w ↦ (
-      omega (arith, if1.true),
-      omega (arith, w.n-is),
-      λ g base x hk. ap
-          (λ (y : ℕ). y + length (keep (has_chunk g (base + a.k)) (up_from (loop.d + 1) (p.N - (loop.d + 1))))) w.n-is
-          ∙ sym (kept_none (has_chunk g (base + a.k)) loop.d p.N loop.n if1.true
-          (sym (c.has_chunk.ensures.value_2 p g base x if1.true hk) ∙ w.if-has_chunk.false))
-          ∙ loop.invariant.2 g base x hk,
-    ) ] in
+    elim c.if-has_chunk.branch [
+      | then-has_chunk w ↦ (
+        omega (arith, if1.true),
+        omega (arith, w.n-is),
+        λ g base x hk. ap
+            (λ (y : ℕ). y + length (keep (has_chunk g (base + a.k)) (up_from (loop.d + 1) (p.N - (loop.d + 1))))) w.n-is
+            ∙ sym (kept-one (has_chunk g (base + a.k)) loop.d p.N loop.n if1.true
+            (sym (c.has_chunk.ensures.value_2 p g base x if1.true hk) ∙ w.if-has_chunk.true))
+            ∙ loop.invariant.2 g base x hk,
+      )
+      | else-has_chunk w ↦ (
+        omega (arith, if1.true),
+        omega (arith, w.n-is),
+        λ g base x hk. ap
+            (λ (y : ℕ). y + length (keep (has_chunk g (base + a.k)) (up_from (loop.d + 1) (p.N - (loop.d + 1))))) w.n-is
+            ∙ sym (kept_none (has_chunk g (base + a.k)) loop.d p.N loop.n if1.true
+            (sym (c.has_chunk.ensures.value_2 p g base x if1.true hk) ∙ w.if-has_chunk.false))
+            ∙ loop.invariant.2 g base x hk,
+      )
+    ] in
     b
 
 pub returns : goal.returns
@@ -72,4 +75,8 @@ unfolding drives_of
 returns c =
     let a = c.args in
     let loop = c.loop-d in
-    let p = a.p in record { upper_bound = omega (arith, loop.invariant.1, loop.invariant.0); value = λ g base x hk. sym (kept-ended (has_chunk g (base + a.k)) loop.d p.N loop.n (omega (arith, c.loop-d-test.false))) ∙ loop.invariant.2 g base x hk }
+    let p = a.p in record {
+      upper_bound = omega (arith, loop.invariant.1, loop.invariant.0);
+      value = λ g base x hk. sym
+          (kept-ended (has_chunk g (base + a.k)) loop.d p.N loop.n (omega (arith, c.loop-d-test.false))) ∙ loop.invariant.2 g base x hk;
+    }

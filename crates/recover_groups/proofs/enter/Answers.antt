@@ -14,17 +14,23 @@ use Rattle.recover_groups.proofs.enter.Goals as goal
 
 pub returns-then-s-base : goal.returns-then-s-base
 returns-then-s-base c =
-    let args = c.args in record { value = (λ j. sym (lt-leb args.base args.s c.if-s-base.true) j
+    let args = c.args in record {
+      value = (λ j. sym (lt-leb args.base args.s c.if-s-base.true) j
           && ltb (args.s - args.base) (group_len args.p args.base)
-          && eqb (get_or args.at.now (256 * args.drive + (args.s - args.base)) 0) 0); at_after = refl }
+          && eqb (get_or args.at.now (256 * args.drive + (args.s - args.base)) 0) 0);
+      at_after = refl;
+    }
 
 pub returns-then-group_len-k : goal.returns-then-group_len-k
 returns-then-group_len-k c =
     let if1 = c.if-s-base in
-    let args = c.args in record { value = (λ j. sym (le-leb args.base args.s (omega (arith, if1.false))) j
+    let args = c.args in record {
+      value = (λ j. sym (le-leb args.base args.s (omega (arith, if1.false))) j
           && sym (le-ltb (args.s - args.base) (group_len args.p args.base) (omega (arith, c.if-group_len-k.true, c.group_len.ensures.0)))
           j
-          && eqb (get_or args.at.now (256 * args.drive + (args.s - args.base)) 0) 0); at_after = refl }
+          && eqb (get_or args.at.now (256 * args.drive + (args.s - args.base)) 0) 0);
+      at_after = refl;
+    }
 
 pub overflow_mul-j : goal.overflow_mul-j
 overflow_mul-j c =
@@ -56,9 +62,12 @@ returns-then-at-j-ne0 c =
     let if2 = c.if-group_len-k in
     let group-len = c.group_len in
     let if1 = c.if-s-base in
-    let args = c.args in record { value = (λ j. sym (le-leb args.base args.s (omega (arith, if1.false))) j
+    let args = c.args in record {
+      value = (λ j. sym (le-leb args.base args.s (omega (arith, if1.false))) j
           && sym (lt-ltb (args.s - args.base) (group_len args.p args.base) (omega (arith, if2.false, group-len.ensures.0))) j
-          && sym (ne_eqb (get_or args.at.now (256 * args.drive + (args.s - args.base)) 0) 0 c.if-at-j-ne0.true) j); at_after = refl }
+          && sym (ne_eqb (get_or args.at.now (256 * args.drive + (args.s - args.base)) 0) 0 c.if-at-j-ne0.true) j);
+      at_after = refl;
+    }
 
 pub offset_bounds-at-j-2 : goal.offset_bounds-at-j-2
 offset_bounds-at-j-2 c =
@@ -81,6 +90,9 @@ returns c =
     let if2 = c.if-group_len-k in
     let group-len = c.group_len in
     let if1 = c.if-s-base in
-    let args = c.args in record { value = (λ j. sym (le-leb args.base args.s (omega (arith, if1.false))) j
+    let args = c.args in record {
+      value = (λ j. sym (le-leb args.base args.s (omega (arith, if1.false))) j
           && sym (lt-ltb (args.s - args.base) (group_len args.p args.base) (omega (arith, if2.false, group-len.ensures.0))) j
-          && sym (eq-eqb (get_or args.at.now (256 * args.drive + (args.s - args.base)) 0) 0 c.if-at-j-ne0.false) j); at_after = refl }
+          && sym (eq-eqb (get_or args.at.now (256 * args.drive + (args.s - args.base)) 0) 0 c.if-at-j-ne0.false) j);
+      at_after = refl;
+    }

@@ -23,10 +23,13 @@ returns-then-n-w c =
     let zone_on_holds = c.zone_on in
     let pre = c.requires in
     let p = a.p in
-    let w = a.w in record { by_index = (λ off im h q. let e =
+    let w = a.w in record {
+      by_index = (λ off im h q. let e =
           (data-stored.ensures.by_index off im h ∙ ap (λ (z : ℕ). data_stored p (zone_at (view_of p off im a.pointers.now) a.drive z)) zone_on_holds.ensures) in
           let f = group-stored_is p (view_of p off im a.pointers.now) w.gone w.seg w.base a.drive pre.pointers_len.1 q in omega
-          (arith, e, f, c.if-n-w.true)); upper_bound = omega arith }
+          (arith, e, f, c.if-n-w.true));
+      upper_bound = omega arith;
+    }
 
 pub returns-then-len-m : goal.returns-then-len-m
 returns-then-len-m c =
@@ -37,10 +40,13 @@ returns-then-len-m c =
     let zone_on_holds = c.zone_on in
     let pre = c.requires in
     let p = a.p in
-    let w = a.w in record { by_index = (λ off im h q. let e =
+    let w = a.w in record {
+      by_index = (λ off im h q. let e =
           (data-stored.ensures.by_index off im h ∙ ap (λ (z : ℕ). data_stored p (zone_at (view_of p off im a.pointers.now) a.drive z)) zone_on_holds.ensures) in
           let f = group-stored_is p (view_of p off im a.pointers.now) w.gone w.seg w.base a.drive pre.pointers_len.1 q in omega
-          (arith, e, f, if1.false, c.if-len-m.true, group-len.ensures.0)); upper_bound = omega (arith, group-len.ensures.0) }
+          (arith, e, f, if1.false, c.if-len-m.true, group-len.ensures.0));
+      upper_bound = omega (arith, group-len.ensures.0);
+    }
 
 pub returns : goal.returns
 returns c =
@@ -51,7 +57,10 @@ returns c =
     let zone_on_holds = c.zone_on in
     let pre = c.requires in
     let p = a.p in
-    let w = a.w in record { by_index = (λ off im h q. let e =
+    let w = a.w in record {
+      by_index = (λ off im h q. let e =
           (data-stored.ensures.by_index off im h ∙ ap (λ (z : ℕ). data_stored p (zone_at (view_of p off im a.pointers.now) a.drive z)) zone_on_holds.ensures) in
           let f = group-stored_is p (view_of p off im a.pointers.now) w.gone w.seg w.base a.drive pre.pointers_len.1 q in omega
-          (arith, e, f, if1.false, c.if-len-m.false, group-len.ensures.0)); upper_bound = omega (arith, group-len.ensures.0, c.if-len-m.false) }
+          (arith, e, f, if1.false, c.if-len-m.false, group-len.ensures.0));
+      upper_bound = omega (arith, group-len.ensures.0, c.if-len-m.false);
+    }

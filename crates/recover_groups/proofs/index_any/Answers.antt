@@ -35,8 +35,12 @@ returns-then-has_drive c =
     let d = a.drive in
     let q = pre.at_len in
     let bad : List ℕ → Bool = λ off. recs_bad p d w.base (group_recs p w.base (recs_on (segment_in p off im ps w) d)) in
-    let f = group_len_le p w.base in record { by_index = (λ off full. sym (ap (λ (b : Bool). b || not (bad off)) (sym c.has_drive.ensures ∙ c.if-has_drive.true))); same_below = clear-row.ensures.same_below; by_index_2 = λ off full t k hk. clear-row.ensures.by_index k (omega (arith, f, hk))
-            ∙ sym (missing_entry p (view_of p off im ps) w.gone w.seg w.base d (w.base + k) q.1 (sym c.has_drive.ensures ∙ c.if-has_drive.true)) }
+    let f = group_len_le p w.base in record {
+      by_index = (λ off full. sym (ap (λ (b : Bool). b || not (bad off)) (sym c.has_drive.ensures ∙ c.if-has_drive.true)));
+      same_below = clear-row.ensures.same_below;
+      by_index_2 = λ off full t k hk. clear-row.ensures.by_index k (omega (arith, f, hk))
+          ∙ sym (missing_entry p (view_of p off im ps) w.gone w.seg w.base d (w.base + k) q.1 (sym c.has_drive.ensures ∙ c.if-has_drive.true));
+    }
 
 pub index_drive-requires : goal.index_drive-requires
 index_drive-requires c =
@@ -44,16 +48,21 @@ index_drive-requires c =
     let clear-row = c.clear_row in
     let args = c.args in
     let pre = c.requires in
-    let f = group_len_le args.p args.w.base in record { p_value = pre.p_value; whole = pre.whole; at_len = (
-            clear-row.auto.at
-                ∙ pre.at_len.0,
-            pre.at_len.1,
-            pre.at_len.2,
-            pre.at_len.3,
-            pre.at_len.4,
-            sym has-drive.ensures
-                ∙ c.if-has_drive.false,
-          ); by_index = (λ k hk. clear-row.ensures.by_index k (omega (arith, f, hk))) }
+    let f = group_len_le args.p args.w.base in record {
+      p_value = pre.p_value;
+      whole = pre.whole;
+      at_len = (
+        clear-row.auto.at
+            ∙ pre.at_len.0,
+        pre.at_len.1,
+        pre.at_len.2,
+        pre.at_len.3,
+        pre.at_len.4,
+        sym has-drive.ensures
+            ∙ c.if-has_drive.false,
+      );
+      by_index = (λ k hk. clear-row.ensures.by_index k (omega (arith, f, hk)));
+    }
 
 pub shape_of-at : goal.shape_of-at
 shape_of-at c =
@@ -75,5 +84,9 @@ returns c =
     let d = a.drive in
     let q = pre.at_len in
     let bad : List ℕ → Bool = λ off. recs_bad p d w.base (group_recs p w.base (recs_on (segment_in p off im ps w) d)) in
-    let f = group_len_le p w.base in record { by_index = (λ off full. index-drive'.ensures.by_index_2 off full
-          ∙ sym (ap (λ (b : Bool). b || not (bad off)) (sym has-drive.ensures ∙ if1.false))); same_below = (λ j h. index-drive'.ensures.same_below j h ∙ clear-row.ensures.same_below j h); by_index_2 = index-drive'.ensures.by_index_3 }
+    let f = group_len_le p w.base in record {
+      by_index = (λ off full. index-drive'.ensures.by_index_2 off full
+          ∙ sym (ap (λ (b : Bool). b || not (bad off)) (sym has-drive.ensures ∙ if1.false)));
+      same_below = (λ j h. index-drive'.ensures.same_below j h ∙ clear-row.ensures.same_below j h);
+      by_index_2 = index-drive'.ensures.by_index_3;
+    }

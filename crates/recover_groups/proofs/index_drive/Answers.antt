@@ -57,7 +57,9 @@ record_of-r-requires c =
     let zone_on_holds = c.zone_on-zone in
     let group-stored = c.group_stored-n in
     let args = c.args in
-    let pre = c.requires in record { p_value = pre.p_value; image_len = (
+    let pre = c.requires in record {
+      p_value = pre.p_value;
+      image_len = (
         pre.whole.image_long,
         pre.at_len.1,
         rw zone_on_holds.ensures (low_zone args.p args.w.gone args.w.seg args.drive pre.at_len.2 pre.at_len.1 pre.at_len.5),
@@ -70,7 +72,8 @@ record_of-r-requires c =
           (ranged args.p pre.p_value).stripes_high,
           (ranged args.p pre.p_value).group_high,
         )),
-      ) }
+      );
+    }
 
 pub stored_bad-requires : goal.stored_bad-requires
 stored_bad-requires c =
@@ -100,7 +103,8 @@ returns-then-stored_bad c =
     let q = pre.at_len in
     let i = loop.i in
     let r = rec_val record_of.result in
-    let g : 0 < p.G = omega (arith, (ranged a.p pre.p_value).group-low) in record { by_index_2 = (λ off full. let rs = group_recs p w.base (recs_on (segment_in p off im ps w) d) in
+    let g : 0 < p.G = omega (arith, (ranged a.p pre.p_value).group-low) in record {
+      by_index_2 = (λ off full. let rs = group_recs p w.base (recs_on (segment_in p off im ps w) d) in
           let n : group-stored.result ≡ length rs = group-stored.ensures.by_index off im pre.whole.image_long q.5 in
           let h : i < length rs = omega (arith, n, loop-test.true) in
           let l : length rs ≤ group_len p w.base = omega (arith, n, group-stored.ensures.upper_bound) in
@@ -108,7 +112,10 @@ returns-then-stored_bad c =
           ∙ (λ j. record_in p (full j) (zone_at (view_of p off im ps) d (zone_on_holds.ensures j)) (w.base + i))
           ∙ group_record p (view_of p off im ps) w.gone w.seg w.base d i q.1 q.5 h in
           sym (ap not
-          (entering_bad_data p d w.base rs a.at.now loop.at i (loop.invariant.3 off full) h g q.3 q.4 l r e (sym c.stored_bad.ensures ∙ c.if-stored_bad.true)))); same_below = loop.invariant.2; by_index_3 = λ off full t. absurd (not_both false t refl) }
+          (entering_bad_data p d w.base rs a.at.now loop.at i (loop.invariant.3 off full) h g q.3 q.4 l r e (sym c.stored_bad.ensures ∙ c.if-stored_bad.true))));
+      same_below = loop.invariant.2;
+      by_index_3 = λ off full t. absurd (not_both false t refl);
+    }
 
 pub overflow_add-i : goal.overflow_add-i
 overflow_add-i c =
@@ -125,7 +132,17 @@ enter-requires c =
     let group-stored = c.group_stored-n in
     let args = c.args in
     let pre = c.requires in
-    let f = group_len_le args.p args.w.base in record { p_value = pre.p_value; at_len = (loop.invariant.1, pre.at_len.1, pre.at_len.3, omega (arith, f, group-stored.ensures.upper_bound, loop-test.true, (ranged args.p pre.p_value).group_high)) }
+    let f = group_len_le args.p args.w.base in
+    record {
+      p_value = pre.p_value;
+      at_len = (
+        loop.invariant.1,
+        pre.at_len.1,
+        pre.at_len.3,
+        omega
+            (arith, f, group-stored.ensures.upper_bound, loop-test.true, (ranged args.p pre.p_value).group_high),
+      );
+    }
 
 pub shape_of-at-then-not-enter : goal.shape_of-at-then-not-enter
 shape_of-at-then-not-enter c =
@@ -153,14 +170,18 @@ returns-then-not-enter c =
     let r = rec_val record_of.result in
     let g : 0 < p.G = omega (arith, (ranged a.p pre.p_value).group-low) in
     let t : enter.result ≡ false = not-true enter.result c.if-not-enter.true-raw in
-    let z : enter.new.at ≡ loop.at = enter.ensures.at_after ∙ cond_false enter.result (set loop.at (256 * d + (record_of.result.stripe - w.base)) (i + 1)) loop.at t in record { by_index_2 = (λ off full. let rs = group_recs p w.base (recs_on (segment_in p off im ps w) d) in
+    let z : enter.new.at ≡ loop.at = enter.ensures.at_after ∙ cond_false enter.result (set loop.at (256 * d + (record_of.result.stripe - w.base)) (i + 1)) loop.at t in record {
+      by_index_2 = (λ off full. let rs = group_recs p w.base (recs_on (segment_in p off im ps w) d) in
           let n : group-stored.result ≡ length rs = group-stored.ensures.by_index off im pre.whole.image_long q.5 in
           let h : i < length rs = omega (arith, n, loop-test.true) in
           let l : length rs ≤ group_len p w.base = omega (arith, n, group-stored.ensures.upper_bound) in
           let e : r ≡ get_or rs i (mk_rec 0 0 0) = record_of.ensures off ps pre.whole.pointers_long
           ∙ (λ j. record_in p (full j) (zone_at (view_of p off im ps) d (zone_on_holds.ensures j)) (w.base + i))
           ∙ group_record p (view_of p off im ps) w.gone w.seg w.base d i q.1 q.5 h in
-          sym (ap not (entering_bad p d w.base rs a.at.now loop.at i (loop.invariant.3 off full) h g q.3 q.4 l r e (sym enter.ensures.value ∙ t)))); same_below = (λ j k. ap (λ (x : List ℕ). get_or x j 0) z ∙ loop.invariant.2 j k); by_index_3 = λ off full t. absurd (not_both false t refl) }
+          sym (ap not (entering_bad p d w.base rs a.at.now loop.at i (loop.invariant.3 off full) h g q.3 q.4 l r e (sym enter.ensures.value ∙ t))));
+      same_below = (λ j k. ap (λ (x : List ℕ). get_or x j 0) z ∙ loop.invariant.2 j k);
+      by_index_3 = λ off full t. absurd (not_both false t refl);
+    }
 
 pub overflow_add-i-in-loop-i : goal.overflow_add-i-in-loop-i
 overflow_add-i-in-loop-i c = omega arith
@@ -228,4 +249,5 @@ returns c =
     let rs : List ℕ → List Rec = λ off. group_recs p w.base (recs_on (segment_in p off im ps w) d) in
     let y : (off : List ℕ) → w.full ≡ sealed_in p (view_of p off im ps) w.gone w.seg → (recs_bad p d w.base (rs off) ≡ false) × Row p w.base (rs off) d c.loop-i.at =
     λ off full. let n : group-stored.result ≡ length (rs off) = group-stored.ensures.by_index off im pre.whole.image_long q.5 in
-    entering_end p d w.base (rs off) a.at.now c.loop-i.at c.loop-i.i (c.loop-i.invariant.3 off full) (omega (arith, n, c.loop-i-test.false)) in record { by_index_2 = (λ off full. sym (ap not (y off full).0)); same_below = c.loop-i.invariant.2; by_index_3 = λ off full t. (y off full).1 }
+    entering_end p d w.base (rs off) a.at.now c.loop-i.at c.loop-i.i (c.loop-i.invariant.3 off full) (omega (arith, n, c.loop-i-test.false)) in
+    record { by_index_2 = (λ off full. sym (ap not (y off full).0)); same_below = c.loop-i.invariant.2; by_index_3 = λ off full t. (y off full).1 }

@@ -63,7 +63,11 @@ returns-then-not-index_any c =
     ∙ any_found (F off) loop.d p.N if1.true
     (bad_or (is_in w.gone loop.d) (recs_bad p loop.d w.base (group_recs p w.base (recs_on (g off) loop.d)))
     ∙ ap not (sym (index-any.ensures.by_index off full))
-    ∙ c.if-not-index_any.true-raw) in record { by_index = (λ off full. sym (ap not (b off full))); by_index_2 = λ off full h. absurd (not_both (group_fault p w.gone (g off) w.base) (b off full) (no_group_fault p w.gone (g off) w.base h)) }
+    ∙ c.if-not-index_any.true-raw) in record {
+      by_index = (λ off full. sym (ap not (b off full)));
+      by_index_2 = λ off full h. absurd
+          (not_both (group_fault p w.gone (g off) w.base) (b off full) (no_group_fault p w.gone (g off) w.base h));
+    }
 
 pub overflow_add-d : goal.overflow_add-d
 overflow_add-d c = omega arith
@@ -116,5 +120,8 @@ returns c =
     let g : List ℕ → Segment = λ off. segment_in p off im ps w in
     let F : List ℕ → ℕ → Bool = λ off. drive_bad p w.gone (g off) w.base in
     let b : (off : List ℕ) → w.full ≡ sealed_in p (view_of p off im ps) w.gone w.seg → group_fault p w.gone (g off) w.base ≡ false =
-    λ off full. fault_list p w.gone (g off) w.base ∙ sym (loop.invariant.3 off full) ∙ any-ended (F off) loop.d p.N (omega (arith, c.loop-d-test.false)) in record { by_index = (λ off full. sym (ap not (b off full))); by_index_2 = λ off full h. indexed_of p (view_of p off im ps) w.gone w.seg w.base loop.at (omega (arith, (ranged a.p pre.p_value).group-low)) q.2 q.3 h
-          (λ e he. loop.invariant.2 off full e (omega (arith, he, c.loop-d-test.false))) }
+    λ off full. fault_list p w.gone (g off) w.base ∙ sym (loop.invariant.3 off full) ∙ any-ended (F off) loop.d p.N (omega (arith, c.loop-d-test.false)) in record {
+      by_index = (λ off full. sym (ap not (b off full)));
+      by_index_2 = λ off full h. indexed_of p (view_of p off im ps) w.gone w.seg w.base loop.at (omega (arith, (ranged a.p pre.p_value).group-low)) q.2 q.3 h
+          (λ e he. loop.invariant.2 off full e (omega (arith, he, c.loop-d-test.false)));
+    }

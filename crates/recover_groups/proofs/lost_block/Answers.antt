@@ -68,7 +68,13 @@ pub decode_block-requires : goal.decode_block-requires
 decode_block-requires c =
     let pre = c.requires in
     let l = c.loop-d in
-    let e : l.d ≡ c.args.p.N = omega (arith, c.loop-d-test.false, l.invariant.0) in record { p_value = pre.p_value; at_len = (l.invariant.1, pre.image_len.6, pre.image_len.4); parts_within = λ k h n. omega (arith, (l.invariant.2 k (omega (arith, h, e)) n).0, pre.image_len.0) }
+    let e : l.d ≡ c.args.p.N = omega (arith, c.loop-d-test.false, l.invariant.0) in
+    record {
+      p_value = pre.p_value;
+      at_len = (l.invariant.1, pre.image_len.6, pre.image_len.4);
+      parts_within = λ k h n. omega
+          (arith, (l.invariant.2 k (omega (arith, h, e)) n).0, pre.image_len.0);
+    }
 
 pub returns : goal.returns
 returns c =

@@ -21,7 +21,12 @@ loop-d-init c = (omega arith, refl, refl, λ e h n. absurd (let z : ⊥ = omega 
 
 pub present_rec-r-requires : goal.present_rec-r-requires
 present_rec-r-requires c =
-    let pre = c.requires in record { p_value = pre.p_value; image_len = (pre.image_len.0, pre.image_len.1, pre.image_len.2, pre.image_len.3, c.loop-d-test.true, pre.image_len.5); all_entered = pre.all_entered }
+    let pre = c.requires in record {
+      p_value = pre.p_value;
+      image_len =
+          (pre.image_len.0, pre.image_len.1, pre.image_len.2, pre.image_len.3, c.loop-d-test.true, pre.image_len.5);
+      all_entered = pre.all_entered;
+    }
 
 pub offset_bounds-addresses-d : goal.offset_bounds-addresses-d
 offset_bounds-addresses-d c = omega (arith, c.loop-d-test.true, (ranged c.args.p c.requires.p_value).drives_high)

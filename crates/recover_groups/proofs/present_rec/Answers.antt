@@ -18,7 +18,8 @@ stored_rec-requires c =
     let a = c.args in
     let pre = c.requires in
     let q = pre.image_len in
-    let here = sym c.has_drive.ensures ∙ c.if-has_drive.false in record { p_value = pre.p_value; image_len = (q.0, q.1, low_zone a.p a.w.gone a.w.seg a.drive q.2 q.4 here, q.3, q.4, q.5); entered = pre.all_entered a.drive q.4 here }
+    let here = sym c.has_drive.ensures ∙ c.if-has_drive.false in
+    record { p_value = pre.p_value; image_len = (q.0, q.1, low_zone a.p a.w.gone a.w.seg a.drive q.2 q.4 here, q.3, q.4, q.5); entered = pre.all_entered a.drive q.4 here }
 
 pub returns : goal.returns
 returns c = λ off ps x e. c.stored_rec.ensures off ps x

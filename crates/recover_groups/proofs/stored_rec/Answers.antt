@@ -28,12 +28,15 @@ pub record_in-requires : goal.record_in-requires
 record_in-requires c =
     let args = c.args in
     let pre = c.requires in
-    let f = group_len_fits args.p args.w.base (omega (arith, pre.image_len.3)) in record { p_value = pre.p_value; image_len = (
+    let f = group_len_fits args.p args.w.base (omega (arith, pre.image_len.3)) in record {
+      p_value = pre.p_value;
+      image_len = (
         pre.image_len.0,
         pre.image_len.4,
         rw c.zone_on-zone.ensures pre.image_len.2,
         omega (arith, f, c.offset_on.ensures.value, pre.entered.0, pre.entered.1),
-      ) }
+      );
+    }
 
 pub returns : goal.returns
 returns c =

@@ -38,12 +38,15 @@ pub block_byte-a-requires : goal.block_byte-a-requires
 block_byte-a-requires c =
     let args = c.args in
     let pre = c.requires in
-    let f = group_len_fits args.p args.w.base (omega (arith, pre.image_len.3)) in record { p_value = pre.p_value; drive_lt_n = (
+    let f = group_len_fits args.p args.w.base (omega (arith, pre.image_len.3)) in record {
+      p_value = pre.p_value;
+      drive_lt_n = (
         pre.image_len.4,
         rw c.zone_on-zone.ensures pre.image_len.2,
         data_below args.p (ranged args.p pre.p_value) (1 + c.offset_on.result)
             (omega (arith, f, c.offset_on.ensures.value, pre.entered.0, pre.entered.1)),
-      ) }
+      );
+    }
 
 pub slice_bounds-xor_into-end : goal.slice_bounds-xor_into-end
 unfolding unit_len

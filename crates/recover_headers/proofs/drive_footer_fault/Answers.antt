@@ -19,7 +19,8 @@ pub zone_footer_fault-requires : goal.zone_footer_fault-requires
 zone_footer_fault-requires c =
     let a = c.args in
     let h = c.requires in
-    let low = low_zone a.p a.gone a.segment a.drive h.drive_lt_n.1 h.drive_lt_n.0 (sym c.has_drive.ensures ∙ c.if-has_drive.false) in record { p_value = h.p_value; whole = h.whole; drive_lt_n = (h.drive_lt_n.0, rw c.zone_on-zone.ensures low) }
+    let low = low_zone a.p a.gone a.segment a.drive h.drive_lt_n.1 h.drive_lt_n.0 (sym c.has_drive.ensures ∙ c.if-has_drive.false) in
+    record { p_value = h.p_value; whole = h.whole; drive_lt_n = (h.drive_lt_n.0, rw c.zone_on-zone.ensures low) }
 
 pub returns : goal.returns
 returns c =

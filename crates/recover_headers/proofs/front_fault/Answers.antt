@@ -30,7 +30,11 @@ pub names_in-names-requires : goal.names_in-names-requires
 names_in-names-requires c = record { p_value = c.requires.p_value; image_len = (c.requires.image_len.0, c.low_drive-low.ensures.1, low_there (goal.at.names_in-names-requires c).After-zone_on-zone) }
 
 pub copied_in-copied-requires : goal.copied_in-copied-requires
-copied_in-copied-requires c = record { p_value = c.requires.p_value; image_len = (c.requires.image_len.0, c.low_drive-low.ensures.1, low_there (goal.at.copied_in-copied-requires c).After-zone_on-zone) }
+copied_in-copied-requires c = record {
+  p_value = c.requires.p_value;
+  image_len =
+      (c.requires.image_len.0, c.low_drive-low.ensures.1, low_there (goal.at.copied_in-copied-requires c).After-zone_on-zone);
+}
 
 pub header_fault-requires : goal.header_fault-requires
 header_fault-requires c = record { p_value = c.requires.p_value; image_len = (c.requires.image_len.0, c.requires.here.1) }

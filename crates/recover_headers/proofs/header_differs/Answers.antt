@@ -25,7 +25,8 @@ pub block_byte-a-requires : goal.block_byte-a-requires
 block_byte-a-requires c =
     let a = c.args in
     let q = c.requires in
-    let low = low_zone a.p a.gone a.segment a.drive q.image_len.2 q.image_len.1 (sym c.has_drive.ensures ∙ c.if-has_drive.false) in record { p_value = q.p_value; drive_lt_n = (q.image_len.1, rw c.zone_on-zone.ensures low, omega (arith, capacity-low a.p (ranged a.p q.p_value))) }
+    let low = low_zone a.p a.gone a.segment a.drive q.image_len.2 q.image_len.1 (sym c.has_drive.ensures ∙ c.if-has_drive.false) in
+    record { p_value = q.p_value; drive_lt_n = (q.image_len.1, rw c.zone_on-zone.ensures low, omega (arith, capacity-low a.p (ranged a.p q.p_value))) }
 
 pub returns : goal.returns
 unfolding header_off

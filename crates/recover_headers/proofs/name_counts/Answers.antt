@@ -33,7 +33,11 @@ count_if-requires c =
     let loop = c.loop-z in
     let clear = c.clear in
     let low_drive_holds = c.low_drive-low in
-    let if1 = c.loop-z-test in record { p_value = c.requires.p_value; image_len = (c.requires.image_len.0, omega (arith, c.requires.image_len.2, loop.invariant.1, clear.auto.dst), low_drive_holds.ensures.1, if1.true) }
+    let if1 = c.loop-z-test in record {
+      p_value = c.requires.p_value;
+      image_len =
+          (c.requires.image_len.0, omega (arith, c.requires.image_len.2, loop.invariant.1, clear.auto.dst), low_drive_holds.ensures.1, if1.true);
+    }
 
 pub overflow_add-z : goal.overflow_add-z
 overflow_add-z c = omega arith

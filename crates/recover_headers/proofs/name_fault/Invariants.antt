@@ -11,7 +11,8 @@ use Rattle.recover_headers.proofs.name_fault.Given as goal
 
 abbrev pub invariant-loop-d : goal.invariant-loop-d
 invariant-loop-d l =
-    (l.d ≤ l.p.N) × (any (λ e. name_bad l.p l.offline l.counts e (zone_on l.names e)) (up_from l.d (l.p.N - l.d)) ≡ any (λ e. name_bad l.p l.offline l.counts e (zone_on l.names e)) (below l.p.N))
+    (l.d ≤ l.p.N) × (any (λ e. name_bad l.p l.offline l.counts e (zone_on l.names e)) (up_from l.d (l.p.N - l.d)) ≡ any
+    (λ e. name_bad l.p l.offline l.counts e (zone_on l.names e)) (below l.p.N))
 
 abbrev pub decreases-loop-d : goal.decreases-loop-d
 decreases-loop-d l = l.p.N - l.d

@@ -18,9 +18,12 @@ returns-then-any_above c =
     let a = c.args in
     let p = a.p in
     let l = c.loop-z in
-    let f = above_by p a.pointers.now a.offline.now a.gone in record { upper_bound = omega (arith, c.loop-z-test.true); by_index = λ im h.
+    let f = above_by p a.pointers.now a.offline.now a.gone in record {
+      upper_bound = omega (arith, c.loop-z-test.true);
+      by_index = λ im h.
           (sym (lowest_turn f p.Z l.z p.Z c.loop-z-test.true (sym c.any_above.ensures ∙ c.if-any_above.true)) ∙ l.invariant.1)
-          ∙ ap (first_or p.Z) (sym (pointer_list p a.offline.now im a.pointers.now h c.requires.pointers_len.0 a.gone)) }
+          ∙ ap (first_or p.Z) (sym (pointer_list p a.offline.now im a.pointers.now h c.requires.pointers_len.0 a.gone));
+    }
 
 pub overflow_add-z : goal.overflow_add-z
 overflow_add-z c = omega arith
@@ -41,5 +44,8 @@ returns c =
     let a = c.args in
     let p = a.p in
     let l = c.loop-z in
-    let f = above_by p a.pointers.now a.offline.now a.gone in record { upper_bound = omega arith; by_index = λ im h. (sym (lowest_end f p.Z l.z p.Z (omega (arith, c.loop-z-test.false))) ∙ l.invariant.1)
-          ∙ ap (first_or p.Z) (sym (pointer_list p a.offline.now im a.pointers.now h c.requires.pointers_len.0 a.gone)) }
+    let f = above_by p a.pointers.now a.offline.now a.gone in record {
+      upper_bound = omega arith;
+      by_index = λ im h. (sym (lowest_end f p.Z l.z p.Z (omega (arith, c.loop-z-test.false))) ∙ l.invariant.1)
+          ∙ ap (first_or p.Z) (sym (pointer_list p a.offline.now im a.pointers.now h c.requires.pointers_len.0 a.gone));
+    }

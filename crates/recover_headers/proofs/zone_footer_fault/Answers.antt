@@ -52,8 +52,7 @@ loop-i-preserved c =
     let loop = c.loop-i in
     let footers-stored = c.footers_stored-n in
     let q : List ℕ → Zone = λ off. zone_at (view_of a.p off a.image.now a.pointers.now) a.drive a.zone in
-    let f : List ℕ → ℕ → Bool = λ off. footer_off a.p (q off) in
-    (
+    let f : List ℕ → ℕ → Bool = λ off. footer_off a.p (q off) in (
       omega (arith, loop-test.true),
       λ off. sym (any_passed (f off) loop.i footers-stored.result loop-test.true
           (sym (c.footer_differs.ensures off a.pointers.now h.whole.pointers_long) ∙ c.if-footer_differs.false))

@@ -14,7 +14,8 @@ use Rattle.recover_headers.proofs.zone_footer_fault.Given as goal
 abbrev pub invariant-loop-i : goal.invariant-loop-i
 invariant-loop-i l =
     (l.i ≤ l.n) × ((off : List ℕ)
-    → any (footer_off l.p (zone_at (view_of l.p off l.image l.pointers) l.drive l.zone)) (up_from l.i (l.n - l.i)) ≡ any (footer_off l.p (zone_at (view_of l.p off l.image l.pointers) l.drive l.zone)) (below l.n))
+    → any (footer_off l.p (zone_at (view_of l.p off l.image l.pointers) l.drive l.zone)) (up_from l.i (l.n - l.i)) ≡ any
+    (footer_off l.p (zone_at (view_of l.p off l.image l.pointers) l.drive l.zone)) (below l.n))
 
 abbrev pub decreases-loop-i : goal.decreases-loop-i
 decreases-loop-i l = l.n - l.i

@@ -27,10 +27,17 @@ slice_bounds-move_with-end c =
 pub move_with-requires : goal.move_with-requires
 move_with-requires c =
     let args = c.args in
-    let pre = c.requires in record { p_value = pre.p_value; whole = pre.whole; moves_shown = pre.moves_shown; all_entered = pre.all_entered; by_index = pre.by_index; drive_lt_n = (
-                pre.drive_lt_n.0,
-                pre.drive_lt_n.1,
-                pre.drive_lt_n.2,
-                (length-take-le args.p.B zeros (ranged args.p pre.p_value).block_high),
-                pre.drive_lt_n.3,
-              ) }
+    let pre = c.requires in record {
+      p_value = pre.p_value;
+      whole = pre.whole;
+      moves_shown = pre.moves_shown;
+      all_entered = pre.all_entered;
+      by_index = pre.by_index;
+      drive_lt_n = (
+        pre.drive_lt_n.0,
+        pre.drive_lt_n.1,
+        pre.drive_lt_n.2,
+        (length-take-le args.p.B zeros (ranged args.p pre.p_value).block_high),
+        pre.drive_lt_n.3,
+      );
+    }

@@ -29,19 +29,26 @@ move_chunk-made-requires c =
     let a = c.args in
     let if1 = c.loop-d-test in
     let loop = c.loop-d in
-    let pre = c.requires in record { p_value = pre.p_value; whole = (loop.invariant.2 []).going.whole; moves_shown = pre.moves_shown; all_entered = pre.all_entered; by_index = λ off. moves_reads a.p (ranged a.p pre.p_value) off a.count
-                  (moved_stripe a.p (segment_in a.p off a.image.now a.pointers.now a.w) a.to (a.w.base + a.k) a.s)
-                  (mk_disk a.image.now a.pointers.now) a.w.seg
-                  (map (moved_to a.p (segment_in a.p off a.image.now a.pointers.now a.w) a.to (a.w.base + a.k) a.s)
-                  (up_from loop.d (a.p.N - loop.d))) loop.left (mk_disk loop.image loop.pointers) (loop.invariant.2 off) a.w
-                  pre.moves_shown.none_gone refl a.at.now (pre.by_index off); drive_lt_n = (
-                if1.true,
-                low_here a.p a.to loop.d pre.zones_low.0 if1.true,
-                pre.zones_low.1,
-                row_room a.p (ranged a.p pre.p_value) [] a.count (mk_disk a.image.now a.pointers.now) a.w pre.moves_shown.seg-low
-                    pre.moves_shown.none_gone a.to (a.w.base + a.k) a.s pre.zones_low.2 loop.d loop.left
-                    (mk_disk loop.image loop.pointers) (loop.invariant.2 []) if1.true,
-              ) }
+    let pre = c.requires in record {
+      p_value = pre.p_value;
+      whole = (loop.invariant.2 []).going.whole;
+      moves_shown = pre.moves_shown;
+      all_entered = pre.all_entered;
+      by_index = λ off. moves_reads a.p (ranged a.p pre.p_value) off a.count
+          (moved_stripe a.p (segment_in a.p off a.image.now a.pointers.now a.w) a.to (a.w.base + a.k) a.s)
+          (mk_disk a.image.now a.pointers.now) a.w.seg
+          (map (moved_to a.p (segment_in a.p off a.image.now a.pointers.now a.w) a.to (a.w.base + a.k) a.s)
+          (up_from loop.d (a.p.N - loop.d))) loop.left (mk_disk loop.image loop.pointers) (loop.invariant.2 off) a.w
+          pre.moves_shown.none_gone refl a.at.now (pre.by_index off);
+      drive_lt_n = (
+        if1.true,
+        low_here a.p a.to loop.d pre.zones_low.0 if1.true,
+        pre.zones_low.1,
+        row_room a.p (ranged a.p pre.p_value) [] a.count (mk_disk a.image.now a.pointers.now) a.w pre.moves_shown.seg-low
+            pre.moves_shown.none_gone a.to (a.w.base + a.k) a.s pre.zones_low.2 loop.d loop.left
+            (mk_disk loop.image loop.pointers) (loop.invariant.2 []) if1.true,
+      );
+    }
 
 pub shape_of-image-then-made : goal.shape_of-image-then-made
 shape_of-image-then-made c =

@@ -13,7 +13,13 @@ use Rattle.recover_move.proofs.move_with.Goals as goal
 
 pub moved_chunk-r-requires : goal.moved_chunk-r-requires
 moved_chunk-r-requires c =
-    let pre = c.requires in record { p_value = pre.p_value; moves_shown = pre.moves_shown; all_entered = pre.all_entered; image_len = (pre.whole.image_long, pre.drive_lt_n.3, pre.drive_lt_n.0, pre.drive_lt_n.2) }
+    let pre = c.requires in record {
+      p_value = pre.p_value;
+      moves_shown = pre.moves_shown;
+      all_entered = pre.all_entered;
+      image_len =
+          (pre.whole.image_long, pre.drive_lt_n.3, pre.drive_lt_n.0, pre.drive_lt_n.2);
+    }
 
 pub write_record-requires : goal.write_record-requires
 write_record-requires c = sym spare_len_lem
@@ -29,12 +35,17 @@ put_limited-requires c =
     let moved-chunk = c.moved_chunk-r in
     let args = c.args in
     let pre = c.requires in
-    let z : zone_on_holds.result ≡ zone_on args.to args.drive = zone_on_holds.ensures in record { p_value = pre.p_value; whole = pre.whole; drive_lt_n = (pre.drive_lt_n.0, rw z pre.drive_lt_n.1, rw z pre.drive_lt_n.4); block_len = (
-            moved-chunk.auto.block
-                ∙ pre.drive_lt_n.3,
-            ap length write-record.ensures
-                ∙ length_record (rec_val moved-chunk.result),
-          ) }
+    let z : zone_on_holds.result ≡ zone_on args.to args.drive = zone_on_holds.ensures in record {
+      p_value = pre.p_value;
+      whole = pre.whole;
+      drive_lt_n = (pre.drive_lt_n.0, rw z pre.drive_lt_n.1, rw z pre.drive_lt_n.4);
+      block_len = (
+        moved-chunk.auto.block
+            ∙ pre.drive_lt_n.3,
+        ap length write-record.ensures
+            ∙ length_record (rec_val moved-chunk.result),
+      );
+    }
 
 pub returns : goal.returns
 returns c =

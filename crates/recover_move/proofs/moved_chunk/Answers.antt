@@ -16,13 +16,18 @@ moved_data-requires c =
     let if1 = c.if-is_data in
     let is_data_holds = c.is_data in
     let args = c.args in
-    let pre = c.requires in record { p_value = pre.p_value; moves_shown = pre.moves_shown; all_entered = pre.all_entered; image_len = (
-            pre.image_len.0,
-            pre.image_len.1,
-            subst (λ (x : ℕ). x < data_count args.p) (sym c.data_position-i.ensures.0)
-                (position_lt args.p args.s args.drive (sym is_data_holds.ensures ∙ if1.true) pre.image_len.2),
-            pre.image_len.3,
-          ) }
+    let pre = c.requires in record {
+      p_value = pre.p_value;
+      moves_shown = pre.moves_shown;
+      all_entered = pre.all_entered;
+      image_len = (
+        pre.image_len.0,
+        pre.image_len.1,
+        subst (λ (x : ℕ). x < data_count args.p) (sym c.data_position-i.ensures.0)
+            (position_lt args.p args.s args.drive (sym is_data_holds.ensures ∙ if1.true) pre.image_len.2),
+        pre.image_len.3,
+      );
+    }
 
 pub returns-then-is_data : goal.returns-then-is_data
 returns-then-is_data c =

@@ -51,30 +51,38 @@ xor_block-requires c =
     let loop = c.loop-i in
     let clear = c.clear in
     let args = c.args in
-    let pre = c.requires in record { p_value = pre.p_value; image_len = (
-          pre.image_len.0,
-          pre.moves_shown.at_long,
-          low_here args.p args.w.seg c.data_drive-from.result pre.moves_shown.seg-low c.data_drive-from.ensures.1,
-          pre.moves_shown.base_low,
-          c.data_drive-from.ensures.1,
-          pre.moves_shown.in_group,
-          loop.invariant.1
-              ∙ clear.auto.dst
-              ∙ pre.image_len.1,
-        ); entered = pre.all_entered c.data_drive-from.result c.data_drive-from.ensures.1 (is_in_empty c.data_drive-from.result) }
+    let pre = c.requires in record {
+      p_value = pre.p_value;
+      image_len = (
+        pre.image_len.0,
+        pre.moves_shown.at_long,
+        low_here args.p args.w.seg c.data_drive-from.result pre.moves_shown.seg-low c.data_drive-from.ensures.1,
+        pre.moves_shown.base_low,
+        c.data_drive-from.ensures.1,
+        pre.moves_shown.in_group,
+        loop.invariant.1
+            ∙ clear.auto.dst
+            ∙ pre.image_len.1,
+      );
+      entered = pre.all_entered c.data_drive-from.result c.data_drive-from.ensures.1 (is_in_empty c.data_drive-from.result);
+    }
 
 pub stored_rec-requires : goal.stored_rec-requires
 stored_rec-requires c =
     let data-drive = c.data_drive-from in
     let args = c.args in
-    let pre = c.requires in record { p_value = pre.p_value; image_len = (
-          pre.image_len.0,
-          pre.moves_shown.at_long,
-          low_here args.p args.w.seg data-drive.result pre.moves_shown.seg-low data-drive.ensures.1,
-          pre.moves_shown.base_low,
-          data-drive.ensures.1,
-          pre.moves_shown.in_group,
-        ); entered = pre.all_entered data-drive.result data-drive.ensures.1 (is_in_empty data-drive.result) }
+    let pre = c.requires in record {
+      p_value = pre.p_value;
+      image_len = (
+        pre.image_len.0,
+        pre.moves_shown.at_long,
+        low_here args.p args.w.seg data-drive.result pre.moves_shown.seg-low data-drive.ensures.1,
+        pre.moves_shown.base_low,
+        data-drive.ensures.1,
+        pre.moves_shown.in_group,
+      );
+      entered = pre.all_entered data-drive.result data-drive.ensures.1 (is_in_empty data-drive.result);
+    }
 
 pub overflow_add-i : goal.overflow_add-i
 overflow_add-i c = omega arith

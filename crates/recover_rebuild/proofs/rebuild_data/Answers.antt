@@ -31,8 +31,16 @@ put_groups-made-requires c =
     let h = q.gone_value in
     let d = a.drive in
     let k₀ = mk_disk a.image.now a.pointers.now in
-    let e = sym h.0 in record { p_value = q.p_value; whole = q.whole; lacks = subst (λ (x : ℕ). Lacks p x d) e (lacks_named p r d h.1); zones_low = (subst (λ (x : ℕ). ZonesLow p x a.seg) e h.2, h.4); by_index = λ off. q.by_index off ∙ ap (λ (x : ℕ). sealed_in p (seen p off k₀) x a.seg) e; by_index_2 = λ off. ap (λ (x : ℕ). recs_fault p x (segment_of p (seen p off k₀) x a.seg)) h.0 ∙ q.by_index_2 off; by_index_3 = λ off. subst (λ (x : ℕ). AllFit p (seen p off k₀) (lost_stores p x d (segment_of p (seen p off k₀) x a.seg) (below p.S))) e
-                    (chunks_fit p r off d a.seg a.count h.1 h.2 h.4 k₀ q.whole (q.by_index_3 off)) }
+    let e = sym h.0 in record {
+      p_value = q.p_value;
+      whole = q.whole;
+      lacks = subst (λ (x : ℕ). Lacks p x d) e (lacks_named p r d h.1);
+      zones_low = (subst (λ (x : ℕ). ZonesLow p x a.seg) e h.2, h.4);
+      by_index = λ off. q.by_index off ∙ ap (λ (x : ℕ). sealed_in p (seen p off k₀) x a.seg) e;
+      by_index_2 = λ off. ap (λ (x : ℕ). recs_fault p x (segment_of p (seen p off k₀) x a.seg)) h.0 ∙ q.by_index_2 off;
+      by_index_3 = λ off. subst (λ (x : ℕ). AllFit p (seen p off k₀) (lost_stores p x d (segment_of p (seen p off k₀) x a.seg) (below p.S))) e
+          (chunks_fit p r off d a.seg a.count h.1 h.2 h.4 k₀ q.whole (q.by_index_3 off));
+    }
 
 pub returns-then-made : goal.returns-then-made
 returns-then-made c =
@@ -97,12 +105,16 @@ footer_stores-requires c =
     let f : (off : List ℕ) → sealed_in p (seen p off k₀) (named d) a.seg ≡ true = λ off. sym (q.by_index off) ∙ not-false a.full if2.false-raw in
     let n = footers'.ensures.0 in
     let z = zone_on_holds.ensures in
-    let t = room_now p r [] d a.seg a.count h.1 h.2 h.4 k₀ q.whole (q.by_index_3 []) m k (s []) if1.false (f []) (q.by_index_2 []) q.p_value h.3 in record { p_value = q.p_value; whole = whole_now p r [] d a.seg a.count h.1 h.2 h.4 k₀ q.whole (q.by_index_3 []) m k (s []) if1.false (f []) (q.by_index_2 []) q.p_value h.3; drive_lt_n = (
-          h.1,
-          subst (λ (x : ℕ). x < p.Z) (sym z) h.4,
-          omega (arith, n),
-          subst (λ (x : ℕ). pointer_of p k.pointers d x + footers'.result ≤ capacity p) (sym z) (omega (arith, t, n)),
-        ) }
+    let t = room_now p r [] d a.seg a.count h.1 h.2 h.4 k₀ q.whole (q.by_index_3 []) m k (s []) if1.false (f []) (q.by_index_2 []) q.p_value h.3 in record {
+      p_value = q.p_value;
+      whole = whole_now p r [] d a.seg a.count h.1 h.2 h.4 k₀ q.whole (q.by_index_3 []) m k (s []) if1.false (f []) (q.by_index_2 []) q.p_value h.3;
+      drive_lt_n = (
+        h.1,
+        subst (λ (x : ℕ). x < p.Z) (sym z) h.4,
+        omega (arith, n),
+        subst (λ (x : ℕ). pointer_of p k.pointers d x + footers'.result ≤ capacity p) (sym z) (omega (arith, t, n)),
+      );
+    }
 
 pub returns : goal.returns
 returns c =

@@ -40,7 +40,17 @@ rebuild_zones-requires c =
     let m = reset-drive.result in
     let k = mk_disk a.image.now reset-drive.new.pointers in
     let t = reset-drive.ensures a.image.now in
-    let n = if1.false in record { p_value = q.p_value; whole = resets_whole p r a.offline.now a.drive a.count h.1 a.kept.now a.serials.now a.rows.now h.2 k₀ q.whole.0 q.all_fit m k t n; gone_value = (h.0, h.1, h.2); zones_empty = drive_resets_empty p r a.offline.now a.drive a.count h.1 a.kept.now a.serials.now a.rows.now h.2 k₀ q.whole.0 q.all_fit m k t n h.3; by_index = resets_good p r a.offline.now a.drive a.count h.1 a.kept.now a.serials.now a.rows.now h.2 k₀ q.whole.0 q.all_fit m k t n q.good_recs; by_index_2 = resets_fit p r a.offline.now a.drive a.count h.1 a.kept.now a.serials.now a.rows.now h.2 k₀ q.whole.0 q.all_fit m k t n }
+    let n = if1.false in record {
+      p_value = q.p_value;
+      whole = resets_whole p r a.offline.now a.drive a.count h.1 a.kept.now a.serials.now a.rows.now h.2 k₀ q.whole.0
+          q.all_fit m k t n;
+      gone_value = (h.0, h.1, h.2);
+      zones_empty = drive_resets_empty p r a.offline.now a.drive a.count h.1 a.kept.now a.serials.now a.rows.now h.2
+          k₀ q.whole.0 q.all_fit m k t n h.3;
+      by_index = resets_good p r a.offline.now a.drive a.count h.1 a.kept.now a.serials.now a.rows.now h.2 k₀ q.whole.0
+          q.all_fit m k t n q.good_recs;
+      by_index_2 = resets_fit p r a.offline.now a.drive a.count h.1 a.kept.now a.serials.now a.rows.now h.2 k₀ q.whole.0 q.all_fit m k t n;
+    }
 
 pub returns : goal.returns
 unfolding drive_resets

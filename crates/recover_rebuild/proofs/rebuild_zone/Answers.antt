@@ -34,24 +34,30 @@ serial_on-serial-requires c =
     let pre = c.requires in
     let a = c.args in
     let low_drive_holds = c.low_drive-low in
-    let h = pre.gone_value in record { p_value = pre.p_value; image_len = (
+    let h = pre.gone_value in record {
+      p_value = pre.p_value;
+      image_len = (
         pre.whole.image_long,
         low_drive_holds.ensures.1,
         low_there a.p a.gone a.drive a.seg (ranged a.p pre.p_value) h.0 h.1 h.2
             low_drive_holds.result low_drive_holds.ensures.0,
-      ) }
+      );
+    }
 
 pub copied_on-copied-requires : goal.copied_on-copied-requires
 copied_on-copied-requires c =
     let low_drive_holds = c.low_drive-low in
     let pre = c.requires in
     let a = c.args in
-    let h = pre.gone_value in record { p_value = pre.p_value; image_len = (
+    let h = pre.gone_value in record {
+      p_value = pre.p_value;
+      image_len = (
         pre.whole.image_long,
         low_drive_holds.ensures.1,
         low_there a.p a.gone a.drive a.seg (ranged a.p pre.p_value) h.0 h.1 h.2
             low_drive_holds.result low_drive_holds.ensures.0,
-      ) }
+      );
+    }
 
 pub is_sealed-full-requires : goal.is_sealed-full-requires
 is_sealed-full-requires c =
@@ -66,11 +72,15 @@ put_header-made-requires c =
     let r = ranged p q.p_value in
     let h = q.gone_value in
     let d = a.drive in
-    let k₀ = mk_disk a.image.now a.pointers.now in record { p_value = q.p_value; whole = q.whole; drive_lt_n = (
-          h.1,
-          h.4,
-          head_room p r [] d a.seg a.count h.1 h.2 h.4 k₀ q.whole (q.by_index_2 []) h.3,
-        ) }
+    let k₀ = mk_disk a.image.now a.pointers.now in record {
+      p_value = q.p_value;
+      whole = q.whole;
+      drive_lt_n = (
+        h.1,
+        h.4,
+        head_room p r [] d a.seg a.count h.1 h.2 h.4 k₀ q.whole (q.by_index_2 []) h.3,
+      );
+    }
 
 pub returns-then-made : goal.returns-then-made
 returns-then-made c =
@@ -126,7 +136,19 @@ rebuild_data-requires c =
     put_header.ensures in
     let n = if1.false in
     let f : (off : List ℕ) → is-sealed.result ≡ sealed_in p (seen p off k₀) (named d) a.seg =
-    λ off. is-sealed.ensures off a.image.now q.whole.image_long ∙ ap (λ (x : ℕ). sealed_in p (seen p off k₀) x a.seg) h.0 in record { p_value = q.p_value; whole = head_whole p r [] d a.seg a.count h.1 h.2 h.4 k₀ q.whole (q.by_index_2 []) h.3 m k (s []) n; gone_value = (h.0, h.1, h.2, head_one p r [] d a.seg a.count h.1 h.2 h.4 k₀ q.whole (q.by_index_2 []) h.3 m k (s []) n, h.4); by_index = λ off. head_sealed p r off d a.seg a.count h.1 h.2 h.4 k₀ q.whole (q.by_index_2 off) h.3 m k (s off) n is-sealed.result (f off); by_index_2 = λ off. head_good p r off d a.seg a.count h.1 h.2 h.4 k₀ q.whole (q.by_index_2 off) h.3 m k (s off) n (q.by_index off); by_index_3 = λ off. head_fits p r off d a.seg a.count h.1 h.2 h.4 k₀ q.whole (q.by_index_2 off) h.3 m k (s off) n }
+    λ off. is-sealed.ensures off a.image.now q.whole.image_long
+    ∙ ap (λ (x : ℕ). sealed_in p (seen p off k₀) x a.seg) h.0 in
+    record {
+      p_value = q.p_value;
+      whole = head_whole p r [] d a.seg a.count h.1 h.2 h.4 k₀ q.whole (q.by_index_2 []) h.3 m k (s []) n;
+      gone_value =
+          (h.0, h.1, h.2, head_one p r [] d a.seg a.count h.1 h.2 h.4 k₀ q.whole (q.by_index_2 []) h.3 m k (s []) n, h.4);
+      by_index = λ off. head_sealed p r off d a.seg
+          a.count h.1 h.2 h.4 k₀ q.whole (q.by_index_2 off) h.3 m k (s off) n is-sealed.result (f off);
+      by_index_2 = λ off. head_good p r off d a.seg a.count h.1 h.2 h.4
+          k₀ q.whole (q.by_index_2 off) h.3 m k (s off) n (q.by_index off);
+      by_index_3 = λ off. head_fits p r off d a.seg a.count h.1 h.2 h.4 k₀ q.whole (q.by_index_2 off) h.3 m k (s off) n;
+    }
 
 pub returns : goal.returns
 returns c =

@@ -57,15 +57,21 @@ rebuild_zone-made-requires c =
     let f = (x.is_one h).0 in
     let k₀ = mk_disk a.image.now a.pointers.now in
     let k = mk_disk l.image l.pointers in
-    let ea = sym c.row-segment.ensures in record { p_value = q.p_value; whole = (l.invariant.0 []).moving.going.whole; gone_value = (
-            q.gone_value.0,
-            hd,
-            subst (λ (y : Seg). ZonesLow p (named d) y) ea (ra.zones_low l.z h f),
-            subst (λ (y : Seg). pointer_of p l.pointers d (zone_on y d) ≡ 0) ea ((l.invariant.0 []).empty l.z h f (x.is_one h).1),
-            subst (λ (y : Seg). zone_on y d < p.Z) ea (ra.zone_low l.z h f),
-          ); by_index = λ off. subst (λ (y : Seg). recs_fault p (named d) (segment_of p (seen p off k) (named d) y) ≡ false) ea
-                (zones_good p r off d a.count hd a.kept.now a.serials.now a.rows.now ra k₀ l.last l.left k (l.invariant.0 off) l.z x h (q.by_index off)); by_index_2 = λ off. subst (λ (y : Seg). AllFit p (seen p off k) (rebuilt_zone p d (segment_of p (seen p off k) (named d) y))) ea
-                (zones_fit p r off d a.count hd a.kept.now a.serials.now a.rows.now ra k₀ l.last l.left k (l.invariant.0 off) l.z x h) }
+    let ea = sym c.row-segment.ensures in record {
+      p_value = q.p_value;
+      whole = (l.invariant.0 []).moving.going.whole;
+      gone_value = (
+        q.gone_value.0,
+        hd,
+        subst (λ (y : Seg). ZonesLow p (named d) y) ea (ra.zones_low l.z h f),
+        subst (λ (y : Seg). pointer_of p l.pointers d (zone_on y d) ≡ 0) ea ((l.invariant.0 []).empty l.z h f (x.is_one h).1),
+        subst (λ (y : Seg). zone_on y d < p.Z) ea (ra.zone_low l.z h f),
+      );
+      by_index = λ off. subst (λ (y : Seg). recs_fault p (named d) (segment_of p (seen p off k) (named d) y) ≡ false) ea
+          (zones_good p r off d a.count hd a.kept.now a.serials.now a.rows.now ra k₀ l.last l.left k (l.invariant.0 off) l.z x h (q.by_index off));
+      by_index_2 = λ off. subst (λ (y : Seg). AllFit p (seen p off k) (rebuilt_zone p d (segment_of p (seen p off k) (named d) y))) ea
+          (zones_fit p r off d a.count hd a.kept.now a.serials.now a.rows.now ra k₀ l.last l.left k (l.invariant.0 off) l.z x h);
+    }
 
 -- what is made is of the segment of the row
 made_is :

@@ -23,7 +23,8 @@ use Rattle.recover_rebuild.proofs.rebuild_zones.Given as goal
 
 abbrev pub invariant-loop-z : goal.invariant-loop-z
 invariant-loop-z l =
-    ((off : List ℕ) → Zones l.p off l.drive l.count l.kept l.serials l.rows (mk_disk l.initial.image l.initial.pointers) l.last l.left (mk_disk l.image l.pointers)) × RisingNext l.p.Z l.kept l.serials l.last l.p.Z l.z
+    ((off : List ℕ) → Zones l.p off l.drive l.count l.kept l.serials l.rows (mk_disk l.initial.image l.initial.pointers) l.last l.left (mk_disk l.image l.pointers))
+    × RisingNext l.p.Z l.kept l.serials l.last l.p.Z l.z
 
 abbrev pub decreases-loop-z : goal.decreases-loop-z
 decreases-loop-z l = 18446744073709551616 - l.last

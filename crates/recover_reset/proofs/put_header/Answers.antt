@@ -39,14 +39,18 @@ put_header_with-requires c =
     let q = c.requires in
     let p = args.p in
     let z = c.zone_on-zone.ensures in
-    let f : unit-len.result ≤ 4096 + spare_len = omega (arith, unit-len.ensures.0, unit_high p (ranged p q.p_value)) in record { p_value = q.p_value; whole = q.whole; drive_lt_n = (
-          q.drive_lt_n.0,
-          rw z q.drive_lt_n.1,
-          rw z q.drive_lt_n.2,
-          length-take-le unit-len.result _ (omega (arith, f, spare_len_lem))
-              ∙ unit-len.ensures.0,
-          ap (λ (n : ℕ). replicate n 0) (sym spare_len_lem),
-        ) }
+    let f : unit-len.result ≤ 4096 + spare_len = omega (arith, unit-len.ensures.0, unit_high p (ranged p q.p_value)) in record {
+      p_value = q.p_value;
+      whole = q.whole;
+      drive_lt_n = (
+        q.drive_lt_n.0,
+        rw z q.drive_lt_n.1,
+        rw z q.drive_lt_n.2,
+        length-take-le unit-len.result _ (omega (arith, f, spare_len_lem))
+            ∙ unit-len.ensures.0,
+        ap (λ (n : ℕ). replicate n 0) (sym spare_len_lem),
+      );
+    }
 
 pub returns : goal.returns
 returns c =

@@ -41,8 +41,8 @@ block_is :
     c.before.before.before.before.before.before.before.before.before.before.args.serial.0
     c.before.before.before.before.before.before.before.before.before.before.args.copied.0
 block_is c =
-    let start = c.before.before.before.before.before.before.before.before.before.before in
     let at_write_header = c.before.before.before.before in
+    let start = at_write_header.before.before.before.before.before.before in
     let a = start.args in
     let write-header = at_write_header.write_header in
     let pre = start.requires in
@@ -75,7 +75,13 @@ slice_bounds-put_limited-end-2 c = sym (block_long c.before)
 
 pub put_limited-requires : goal.put_limited-requires
 put_limited-requires c =
-    let q = c.requires in record { p_value = q.p_value; whole = q.whole; drive_lt_n = (q.drive_lt_n.0, q.drive_lt_n.1, q.drive_lt_n.2); block_len = (block_long c.before, ap length q.drive_lt_n.4 ∙ length-zero_spare) }
+    let q = c.requires in record {
+      p_value = q.p_value;
+      whole = q.whole;
+      drive_lt_n = (q.drive_lt_n.0, q.drive_lt_n.1, q.drive_lt_n.2);
+      block_len =
+          (block_long c.before, ap length q.drive_lt_n.4 ∙ length-zero_spare);
+    }
 
 pub returns : goal.returns
 returns c =

@@ -15,7 +15,8 @@ abbrev pub invariant-loop-z : goal.invariant-loop-z
 invariant-loop-z l =
     (l.z ≤ l.p.Z)
     × (length l.pointers ≡ length l.initial.pointers)
-    × ((im : List ℕ) → Owes l.p l.count (map (reset l.drive) (good_zones l.p l.offline l.drive)) (mk_disk im l.initial.pointers) (good_from l.p l.offline l.drive l.z) l.left (mk_disk im l.pointers))
+    × ((im : List ℕ) → Owes l.p l.count (map (reset l.drive) (good_zones l.p l.offline l.drive)) (mk_disk im l.initial.pointers)
+    (good_from l.p l.offline l.drive l.z) l.left (mk_disk im l.pointers))
 
 abbrev pub decreases-loop-z : goal.decreases-loop-z
 decreases-loop-z l = l.p.Z - l.z

@@ -16,7 +16,12 @@ use Rattle.recover_rewrite.proofs.move_group.Goals as goal
 
 pub index_group-requires : goal.index_group-requires
 index_group-requires c =
-    let pre = c.requires in record { p_value = pre.p_value; whole = pre.whole; at_len = (pre.at_len.0, subst (λ (x : ℕ). ZonesLow c.args.p x c.args.w.seg) (sym pre.at_len.4) pre.at_len.1, pre.at_len.2, pre.at_len.3) }
+    let pre = c.requires in record {
+      p_value = pre.p_value;
+      whole = pre.whole;
+      at_len =
+          (pre.at_len.0, subst (λ (x : ℕ). ZonesLow c.args.p x c.args.w.seg) (sym pre.at_len.4) pre.at_len.1, pre.at_len.2, pre.at_len.3);
+    }
 
 pub group_len-len-requires : goal.group_len-len-requires
 group_len-len-requires c =
@@ -52,44 +57,51 @@ move_if-next-requires c =
     let group-len = c.group_len-len in
     let index-group = c.index_group in
     let args = c.args in
-    let pre = c.requires in record { p_value = pre.p_value; whole = (loop.invariant.4 []).moves.going.whole; moves_shown = record {
-            at_long = index-group.auto.at
-                ∙ pre.at_len.0;
-            seg-low = pre.at_len.1;
-            base_low = pre.at_len.2;
-            in_group =
-                (omega (arith, group-len.ensures.0, loop-test.true));
-            none_gone = pre.at_len.4;
-          }; by_index = λ off. upto_reads args.p (ranged args.p pre.p_value) off args.w pre.at_len.4 args.to args.m
-                (mk_disk args.image.now args.pointers.now)
-                (counted_from args.p (segment_in args.p off args.image.now args.pointers.now args.w) args.w.base
-                (group_len args.p args.w.base)) (counted_from args.p (segment_in args.p off args.image.now args.pointers.now args.w)
-                (args.w.base + loop.k) (group_len args.p args.w.base - loop.k)) loop.next (mk_disk loop.image loop.pointers)
-                (loop.invariant.4 off) index-group.new.at
-                (record { long = pre.whole.pointers_long; full_right = (pre.by_index off).0; indexed = index-group.ensures.by_index_2 off (pre.by_index off).0 (pre.by_index off).1 }); zones_low = (pre.zones_low.0, loop.invariant.3, (loop.invariant.4 []).uncut, pre.zones_low.3); by_index_2 = λ off. upto_fits args.p (ranged args.p pre.p_value) off args.w pre.at_len.4 args.to args.m
-                  (mk_disk args.image.now args.pointers.now)
-                  (counted_from args.p (segment_in args.p off args.image.now args.pointers.now args.w) args.w.base
-                  (group_len args.p args.w.base)) (counted_from args.p (segment_in args.p off args.image.now args.pointers.now args.w)
-                  (args.w.base + loop.k) (group_len args.p args.w.base - loop.k)) loop.next (mk_disk loop.image loop.pointers)
-                  (loop.invariant.4 off) (λ (y : Segment). itself args.p y (args.w.base + loop.k)) loop.next.next
-                  (upto_first args.p (ranged args.p pre.p_value) off (segment_in args.p off args.image.now args.pointers.now args.w) args.to
-                  args.w.seg pre.at_len.1 pre.zones_low.3 args.m (mk_disk args.image.now args.pointers.now)
-                  (counted_from args.p (segment_in args.p off args.image.now args.pointers.now args.w) args.w.base
-                  (group_len args.p args.w.base))
-                  (itself args.p (segment_in args.p off args.image.now args.pointers.now args.w) (args.w.base + loop.k))
-                  (counted_from args.p (segment_in args.p off args.image.now args.pointers.now args.w) (args.w.base + (loop.k + 1))
-                  (group_len args.p args.w.base - (loop.k + 1))) loop.next (mk_disk loop.image loop.pointers)
-                  (upto_as args.p (ranged args.p pre.p_value) off (segment_in args.p off args.image.now args.pointers.now args.w) args.to
-                  args.w.seg pre.at_len.1 pre.zones_low.3 args.m (mk_disk args.image.now args.pointers.now)
-                  (counted_from args.p (segment_in args.p off args.image.now args.pointers.now args.w) args.w.base
-                  (group_len args.p args.w.base)) (counted_from args.p
-                  (segment_in args.p off args.image.now args.pointers.now args.w) (args.w.base + loop.k)
-                  (group_len args.p args.w.base - loop.k))
-                  ((itself args.p (segment_in args.p off args.image.now args.pointers.now args.w) (args.w.base + loop.k)) ++
-                  (counted_from args.p (segment_in args.p off args.image.now args.pointers.now args.w) (args.w.base + (loop.k + 1))
-                  (group_len args.p args.w.base - (loop.k + 1)))) loop.next (mk_disk loop.image loop.pointers)
-                  (from_step args.p (segment_in args.p off args.image.now args.pointers.now args.w) args.w.base loop.k
-                  (group_len args.p args.w.base) (omega (arith, group-len.ensures.0, loop-test.true))) (loop.invariant.4 off))) }
+    let pre = c.requires in record {
+      p_value = pre.p_value;
+      whole = (loop.invariant.4 []).moves.going.whole;
+      moves_shown = record {
+        at_long = index-group.auto.at
+            ∙ pre.at_len.0;
+        seg-low = pre.at_len.1;
+        base_low = pre.at_len.2;
+        in_group =
+            (omega (arith, group-len.ensures.0, loop-test.true));
+        none_gone = pre.at_len.4;
+      };
+      by_index = λ off. upto_reads args.p (ranged args.p pre.p_value) off args.w pre.at_len.4 args.to args.m
+          (mk_disk args.image.now args.pointers.now)
+          (counted_from args.p (segment_in args.p off args.image.now args.pointers.now args.w) args.w.base
+          (group_len args.p args.w.base)) (counted_from args.p (segment_in args.p off args.image.now args.pointers.now args.w)
+          (args.w.base + loop.k) (group_len args.p args.w.base - loop.k)) loop.next (mk_disk loop.image loop.pointers)
+          (loop.invariant.4 off) index-group.new.at
+          (record { long = pre.whole.pointers_long; full_right = (pre.by_index off).0; indexed = index-group.ensures.by_index_2 off (pre.by_index off).0 (pre.by_index off).1 });
+      zones_low = (pre.zones_low.0, loop.invariant.3, (loop.invariant.4 []).uncut, pre.zones_low.3);
+      by_index_2 = λ off. upto_fits args.p (ranged args.p pre.p_value) off args.w pre.at_len.4 args.to args.m
+          (mk_disk args.image.now args.pointers.now)
+          (counted_from args.p (segment_in args.p off args.image.now args.pointers.now args.w) args.w.base
+          (group_len args.p args.w.base)) (counted_from args.p (segment_in args.p off args.image.now args.pointers.now args.w)
+          (args.w.base + loop.k) (group_len args.p args.w.base - loop.k)) loop.next (mk_disk loop.image loop.pointers)
+          (loop.invariant.4 off) (λ (y : Segment). itself args.p y (args.w.base + loop.k)) loop.next.next
+          (upto_first args.p (ranged args.p pre.p_value) off (segment_in args.p off args.image.now args.pointers.now args.w) args.to
+          args.w.seg pre.at_len.1 pre.zones_low.3 args.m (mk_disk args.image.now args.pointers.now)
+          (counted_from args.p (segment_in args.p off args.image.now args.pointers.now args.w) args.w.base
+          (group_len args.p args.w.base))
+          (itself args.p (segment_in args.p off args.image.now args.pointers.now args.w) (args.w.base + loop.k))
+          (counted_from args.p (segment_in args.p off args.image.now args.pointers.now args.w) (args.w.base + (loop.k + 1))
+          (group_len args.p args.w.base - (loop.k + 1))) loop.next (mk_disk loop.image loop.pointers)
+          (upto_as args.p (ranged args.p pre.p_value) off (segment_in args.p off args.image.now args.pointers.now args.w) args.to
+          args.w.seg pre.at_len.1 pre.zones_low.3 args.m (mk_disk args.image.now args.pointers.now)
+          (counted_from args.p (segment_in args.p off args.image.now args.pointers.now args.w) args.w.base
+          (group_len args.p args.w.base)) (counted_from args.p
+          (segment_in args.p off args.image.now args.pointers.now args.w) (args.w.base + loop.k)
+          (group_len args.p args.w.base - loop.k))
+          ((itself args.p (segment_in args.p off args.image.now args.pointers.now args.w) (args.w.base + loop.k)) ++
+          (counted_from args.p (segment_in args.p off args.image.now args.pointers.now args.w) (args.w.base + (loop.k + 1))
+          (group_len args.p args.w.base - (loop.k + 1)))) loop.next (mk_disk loop.image loop.pointers)
+          (from_step args.p (segment_in args.p off args.image.now args.pointers.now args.w) args.w.base loop.k
+          (group_len args.p args.w.base) (omega (arith, group-len.ensures.0, loop-test.true))) (loop.invariant.4 off)));
+    }
 
 pub shape_of-image-then-next : goal.shape_of-image-then-next
 shape_of-image-then-next c =

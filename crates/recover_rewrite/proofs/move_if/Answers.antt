@@ -20,7 +20,11 @@ use Rattle.recover_rewrite.proofs.move_if.Goals as goal
 pub counts-requires : goal.counts-requires
 counts-requires c =
     let args = c.args in
-    let pre = c.requires in record { p_value = pre.p_value; at_len = (pre.moves_shown.at_long, omega (arith, group_len_le args.p args.w.base, pre.moves_shown.in_group, (ranged args.p pre.p_value).group_high)) }
+    let pre = c.requires in record {
+      p_value = pre.p_value;
+      at_len =
+          (pre.moves_shown.at_long, omega (arith, group_len_le args.p args.w.base, pre.moves_shown.in_group, (ranged args.p pre.p_value).group_high));
+    }
 
 pub returns-then-not-counts : goal.returns-then-not-counts
 returns-then-not-counts c =
@@ -47,19 +51,27 @@ move_stripe-made-requires c =
     (sym pre.moves_shown.none_gone)
     ∙ sym (counts'.ensures (segment_in args.p off args.image.now args.pointers.now args.w) args.w.base
     (pre.by_index off).indexed pre.moves_shown.in_group)
-    ∙ not-false counts'.result if1.false-raw) in record { p_value = pre.p_value; whole = pre.whole; moves_shown = pre.moves_shown; all_entered = counts-entered args.p 0 (segment_in args.p [] args.image.now args.pointers.now args.w) args.w.base args.at.now
-                args.k (pre.by_index []).indexed pre.moves_shown.in_group (cnt []); by_index = pre.by_index; zones_low = (
-                  pre.zones_low.0,
-                  omega (
-                    arith,
-                    shown-low args.p args.w args.at.now args.k pre.moves_shown,
-                    (ranged args.p pre.p_value).stripes_high,
-                    pre.zones_low.1,
-                  ),
-                  pre.zones_low.3,
-                ); by_index_2 = λ off. fit_one args.p (seen args.p off (mk_disk args.image.now args.pointers.now))
-                    (segment_in args.p off args.image.now args.pointers.now args.w) args.to (args.w.base + args.k)
-                    args.m.next (cnt off) (pre.by_index_2 off) }
+    ∙ not-false counts'.result if1.false-raw) in record {
+      p_value = pre.p_value;
+      whole = pre.whole;
+      moves_shown = pre.moves_shown;
+      all_entered = counts-entered args.p 0 (segment_in args.p [] args.image.now args.pointers.now args.w) args.w.base args.at.now
+          args.k (pre.by_index []).indexed pre.moves_shown.in_group (cnt []);
+      by_index = pre.by_index;
+      zones_low = (
+        pre.zones_low.0,
+        omega (
+          arith,
+          shown-low args.p args.w args.at.now args.k pre.moves_shown,
+          (ranged args.p pre.p_value).stripes_high,
+          pre.zones_low.1,
+        ),
+        pre.zones_low.3,
+      );
+      by_index_2 = λ off. fit_one args.p (seen args.p off (mk_disk args.image.now args.pointers.now))
+          (segment_in args.p off args.image.now args.pointers.now args.w) args.to (args.w.base + args.k)
+          args.m.next (cnt off) (pre.by_index_2 off);
+    }
 
 pub overflow_add-result : goal.overflow_add-result
 overflow_add-result c =

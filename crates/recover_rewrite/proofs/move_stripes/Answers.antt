@@ -49,46 +49,53 @@ move_group-m-requires c =
     let if1 = c.loop-base-test in
     let loop = c.loop-base in
     let args = c.args in
-    let pre = c.requires in record { p_value = pre.p_value; whole = (loop.invariant.5 []).moves.going.whole; at_len = (loop.invariant.1, pre.zones_low.0, if1.true, loop.invariant.0, refl); by_index = λ off. (
-              sym (pre.by_index off).0
-                  ∙ upto_sealed args.p (ranged args.p pre.p_value) off (group_at_of args.seg loop.base) refl args.to (unmoved args.count)
-                  (mk_disk args.image.now args.pointers.now)
-                  (counted args.p 0 (segment_of args.p (seen args.p off (mk_disk args.image.now args.pointers.now)) 0 args.seg))
-                  (counted_from args.p (segment_of args.p (seen args.p off (mk_disk args.image.now args.pointers.now)) 0 args.seg)
-                  loop.base (args.p.S - loop.base)) loop.m (mk_disk loop.image loop.pointers) (loop.invariant.5 off),
-              subst
-                  (λ (y : Segment). recs_fault args.p 0 y ≡ false)
-                  (upto_in args.p (ranged args.p pre.p_value) off (group_at_of args.seg loop.base) refl args.to (unmoved args.count)
-                  (mk_disk args.image.now args.pointers.now)
-                  (counted args.p 0 (segment_of args.p (seen args.p off (mk_disk args.image.now args.pointers.now)) 0 args.seg))
-                  (counted_from args.p (segment_of args.p (seen args.p off (mk_disk args.image.now args.pointers.now)) 0 args.seg)
-                  loop.base (args.p.S - loop.base)) loop.m (mk_disk loop.image loop.pointers) (loop.invariant.5 off)) (pre.by_index off).1,
-            ); zones_low = (pre.zones_low.1, loop.invariant.4, (loop.invariant.5 []).uncut, pre.zones_low.2); by_index_2 = λ off. upto_fits args.p (ranged args.p pre.p_value) off (group_at_of args.seg loop.base) refl args.to (unmoved args.count)
-                  (mk_disk args.image.now args.pointers.now)
-                  (counted args.p 0 (segment_of args.p (seen args.p off (mk_disk args.image.now args.pointers.now)) 0 args.seg))
-                  (counted_from args.p (segment_of args.p (seen args.p off (mk_disk args.image.now args.pointers.now)) 0 args.seg)
-                  loop.base (args.p.S - loop.base)) loop.m (mk_disk loop.image loop.pointers) (loop.invariant.5 off)
-                  (λ (y : Segment). counted_from args.p y loop.base (group_len args.p loop.base)) loop.m.next
-                  (upto_first args.p (ranged args.p pre.p_value) off
-                  (segment_of args.p (seen args.p off (mk_disk args.image.now args.pointers.now)) 0 args.seg) args.to args.seg
-                  pre.zones_low.0 pre.zones_low.2 (unmoved args.count) (mk_disk args.image.now args.pointers.now)
-                  (counted args.p 0 (segment_of args.p (seen args.p off (mk_disk args.image.now args.pointers.now)) 0 args.seg))
-                  (counted_from args.p (segment_of args.p (seen args.p off (mk_disk args.image.now args.pointers.now)) 0 args.seg)
-                  loop.base (group_len args.p loop.base))
-                  (counted_from args.p (segment_of args.p (seen args.p off (mk_disk args.image.now args.pointers.now)) 0 args.seg)
-                  (loop.base + args.p.G) (args.p.S - (loop.base + args.p.G))) loop.m (mk_disk loop.image loop.pointers)
-                  (upto_as args.p (ranged args.p pre.p_value) off
-                  (segment_of args.p (seen args.p off (mk_disk args.image.now args.pointers.now)) 0 args.seg) args.to args.seg
-                  pre.zones_low.0 pre.zones_low.2 (unmoved args.count) (mk_disk args.image.now args.pointers.now)
-                  (counted args.p 0 (segment_of args.p (seen args.p off (mk_disk args.image.now args.pointers.now)) 0 args.seg))
-                  (counted_from args.p (segment_of args.p (seen args.p off (mk_disk args.image.now args.pointers.now)) 0 args.seg)
-                  loop.base (args.p.S - loop.base))
-                  ((counted_from args.p (segment_of args.p (seen args.p off (mk_disk args.image.now args.pointers.now)) 0 args.seg)
-                  loop.base (group_len args.p loop.base)) ++
-                  (counted_from args.p (segment_of args.p (seen args.p off (mk_disk args.image.now args.pointers.now)) 0 args.seg)
-                  (loop.base + args.p.G) (args.p.S - (loop.base + args.p.G)))) loop.m (mk_disk loop.image loop.pointers)
-                  (from-group args.p (segment_of args.p (seen args.p off (mk_disk args.image.now args.pointers.now)) 0 args.seg)
-                  loop.base if1.true) (loop.invariant.5 off))) }
+    let pre = c.requires in record {
+      p_value = pre.p_value;
+      whole = (loop.invariant.5 []).moves.going.whole;
+      at_len = (loop.invariant.1, pre.zones_low.0, if1.true, loop.invariant.0, refl);
+      by_index = λ off. (
+        sym (pre.by_index off).0
+            ∙ upto_sealed args.p (ranged args.p pre.p_value) off (group_at_of args.seg loop.base) refl args.to (unmoved args.count)
+            (mk_disk args.image.now args.pointers.now)
+            (counted args.p 0 (segment_of args.p (seen args.p off (mk_disk args.image.now args.pointers.now)) 0 args.seg))
+            (counted_from args.p (segment_of args.p (seen args.p off (mk_disk args.image.now args.pointers.now)) 0 args.seg)
+            loop.base (args.p.S - loop.base)) loop.m (mk_disk loop.image loop.pointers) (loop.invariant.5 off),
+        subst
+            (λ (y : Segment). recs_fault args.p 0 y ≡ false)
+            (upto_in args.p (ranged args.p pre.p_value) off (group_at_of args.seg loop.base) refl args.to (unmoved args.count)
+            (mk_disk args.image.now args.pointers.now)
+            (counted args.p 0 (segment_of args.p (seen args.p off (mk_disk args.image.now args.pointers.now)) 0 args.seg))
+            (counted_from args.p (segment_of args.p (seen args.p off (mk_disk args.image.now args.pointers.now)) 0 args.seg)
+            loop.base (args.p.S - loop.base)) loop.m (mk_disk loop.image loop.pointers) (loop.invariant.5 off)) (pre.by_index off).1,
+      );
+      zones_low = (pre.zones_low.1, loop.invariant.4, (loop.invariant.5 []).uncut, pre.zones_low.2);
+      by_index_2 = λ off. upto_fits args.p (ranged args.p pre.p_value) off (group_at_of args.seg loop.base) refl args.to (unmoved args.count)
+          (mk_disk args.image.now args.pointers.now)
+          (counted args.p 0 (segment_of args.p (seen args.p off (mk_disk args.image.now args.pointers.now)) 0 args.seg))
+          (counted_from args.p (segment_of args.p (seen args.p off (mk_disk args.image.now args.pointers.now)) 0 args.seg)
+          loop.base (args.p.S - loop.base)) loop.m (mk_disk loop.image loop.pointers) (loop.invariant.5 off)
+          (λ (y : Segment). counted_from args.p y loop.base (group_len args.p loop.base)) loop.m.next
+          (upto_first args.p (ranged args.p pre.p_value) off
+          (segment_of args.p (seen args.p off (mk_disk args.image.now args.pointers.now)) 0 args.seg) args.to args.seg
+          pre.zones_low.0 pre.zones_low.2 (unmoved args.count) (mk_disk args.image.now args.pointers.now)
+          (counted args.p 0 (segment_of args.p (seen args.p off (mk_disk args.image.now args.pointers.now)) 0 args.seg))
+          (counted_from args.p (segment_of args.p (seen args.p off (mk_disk args.image.now args.pointers.now)) 0 args.seg)
+          loop.base (group_len args.p loop.base))
+          (counted_from args.p (segment_of args.p (seen args.p off (mk_disk args.image.now args.pointers.now)) 0 args.seg)
+          (loop.base + args.p.G) (args.p.S - (loop.base + args.p.G))) loop.m (mk_disk loop.image loop.pointers)
+          (upto_as args.p (ranged args.p pre.p_value) off
+          (segment_of args.p (seen args.p off (mk_disk args.image.now args.pointers.now)) 0 args.seg) args.to args.seg
+          pre.zones_low.0 pre.zones_low.2 (unmoved args.count) (mk_disk args.image.now args.pointers.now)
+          (counted args.p 0 (segment_of args.p (seen args.p off (mk_disk args.image.now args.pointers.now)) 0 args.seg))
+          (counted_from args.p (segment_of args.p (seen args.p off (mk_disk args.image.now args.pointers.now)) 0 args.seg)
+          loop.base (args.p.S - loop.base))
+          ((counted_from args.p (segment_of args.p (seen args.p off (mk_disk args.image.now args.pointers.now)) 0 args.seg)
+          loop.base (group_len args.p loop.base)) ++
+          (counted_from args.p (segment_of args.p (seen args.p off (mk_disk args.image.now args.pointers.now)) 0 args.seg)
+          (loop.base + args.p.G) (args.p.S - (loop.base + args.p.G)))) loop.m (mk_disk loop.image loop.pointers)
+          (from-group args.p (segment_of args.p (seen args.p off (mk_disk args.image.now args.pointers.now)) 0 args.seg)
+          loop.base if1.true) (loop.invariant.5 off)));
+    }
 
 pub shape_of-image-then-m : goal.shape_of-image-then-m
 shape_of-image-then-m c =

@@ -10,7 +10,12 @@ use Rattle.recover_rewrite.proofs.rewrite.Goals as goal
 pub header_stores-made-requires : goal.header_stores-made-requires
 header_stores-made-requires c =
     let args = c.args in
-    let pre = c.requires in record { p_value = pre.p_value; whole = pre.whole; zones_low = (pre.zones_low.1, λ d hd. new_head_room args.p (ranged args.p pre.p_value) args.pointers.now args.to d (pre.by_index_2.1 d hd)) }
+    let pre = c.requires in record {
+      p_value = pre.p_value;
+      whole = pre.whole;
+      zones_low =
+          (pre.zones_low.1, λ d hd. new_head_room args.p (ranged args.p pre.p_value) args.pointers.now args.to d (pre.by_index_2.1 d hd));
+    }
 
 pub returns-then-made : goal.returns-then-made
 returns-then-made c =
@@ -26,25 +31,31 @@ move_stripes-moved-requires c =
     let if1 = c.if-made in
     let header-stores = c.header_stores-made in
     let args = c.args in
-    let pre = c.requires in record { p_value = pre.p_value; whole = rewrite_whole args.p (ranged args.p pre.p_value) [] args.count args.seg pre.zones_low.0 args.to pre.zones_low.2
-            args.serial.0 (mk_disk args.image.now args.pointers.now) pre.whole (pre.by_index_3 []) args.copied.0 (pre.by_index_2.0 [])
-            header-stores.result (mk_disk header-stores.new.image header-stores.new.pointers) header-stores.ensures if1.false; zones_low = (
-            pre.zones_low.0,
-            pre.zones_low.1,
-            pre.zones_low.2,
-          ); by_index = λ off. (
-              rewrite_sealed args.p (ranged args.p pre.p_value) off args.count args.seg pre.zones_low.0 args.to pre.zones_low.2
-                  args.serial.0 (mk_disk args.image.now args.pointers.now) pre.whole (pre.by_index_3 off) args.copied.0
-                  (pre.by_index_2.0 off) header-stores.result (mk_disk header-stores.new.image header-stores.new.pointers)
-                  header-stores.ensures if1.false (pre.by_index off).0,
-              rewrite_good args.p (ranged args.p pre.p_value) off args.count args.seg pre.zones_low.0 args.to pre.zones_low.2
-                  args.serial.0 (mk_disk args.image.now args.pointers.now) pre.whole (pre.by_index_3 off) args.copied.0
-                  (pre.by_index_2.0 off) header-stores.result (mk_disk header-stores.new.image header-stores.new.pointers)
-                  header-stores.ensures if1.false (pre.by_index off).1,
-            ); by_index_2 = λ off. rewrite_fits args.p (ranged args.p pre.p_value) off args.count args.seg pre.zones_low.0 args.to pre.zones_low.2
-                args.serial.0 (mk_disk args.image.now args.pointers.now) pre.whole (pre.by_index_3 off) args.copied.0
-                (pre.by_index_2.0 off) header-stores.result (mk_disk header-stores.new.image header-stores.new.pointers)
-                header-stores.ensures if1.false }
+    let pre = c.requires in record {
+      p_value = pre.p_value;
+      whole = rewrite_whole args.p (ranged args.p pre.p_value) [] args.count args.seg pre.zones_low.0 args.to pre.zones_low.2
+          args.serial.0 (mk_disk args.image.now args.pointers.now) pre.whole (pre.by_index_3 []) args.copied.0 (pre.by_index_2.0 [])
+          header-stores.result (mk_disk header-stores.new.image header-stores.new.pointers) header-stores.ensures if1.false;
+      zones_low = (
+        pre.zones_low.0,
+        pre.zones_low.1,
+        pre.zones_low.2,
+      );
+      by_index = λ off. (
+        rewrite_sealed args.p (ranged args.p pre.p_value) off args.count args.seg pre.zones_low.0 args.to pre.zones_low.2
+            args.serial.0 (mk_disk args.image.now args.pointers.now) pre.whole (pre.by_index_3 off) args.copied.0
+            (pre.by_index_2.0 off) header-stores.result (mk_disk header-stores.new.image header-stores.new.pointers)
+            header-stores.ensures if1.false (pre.by_index off).0,
+        rewrite_good args.p (ranged args.p pre.p_value) off args.count args.seg pre.zones_low.0 args.to pre.zones_low.2
+            args.serial.0 (mk_disk args.image.now args.pointers.now) pre.whole (pre.by_index_3 off) args.copied.0
+            (pre.by_index_2.0 off) header-stores.result (mk_disk header-stores.new.image header-stores.new.pointers)
+            header-stores.ensures if1.false (pre.by_index off).1,
+      );
+      by_index_2 = λ off. rewrite_fits args.p (ranged args.p pre.p_value) off args.count args.seg pre.zones_low.0 args.to pre.zones_low.2
+          args.serial.0 (mk_disk args.image.now args.pointers.now) pre.whole (pre.by_index_3 off) args.copied.0
+          (pre.by_index_2.0 off) header-stores.result (mk_disk header-stores.new.image header-stores.new.pointers)
+          header-stores.ensures if1.false;
+    }
 
 pub returns-then-moved : goal.returns-then-moved
 returns-then-moved c =
@@ -62,10 +73,13 @@ pub reset_stores-requires : goal.reset_stores-requires
 reset_stores-requires c =
     let move-stripes = c.move_stripes-moved in
     let header-stores = c.header_stores-made in
-    let pre = c.requires in record { p_value = pre.p_value; pointers_len = (
+    let pre = c.requires in record {
+      p_value = pre.p_value;
+      pointers_len = (
         move-stripes.auto.pointers ∙ header-stores.auto.pointers ∙ pre.whole.pointers_long,
         pre.zones_low.0,
-      ) }
+      );
+    }
 
 pub returns : goal.returns
 returns c =

@@ -24,10 +24,13 @@ pub returns-then-is_unsealed : goal.returns-then-is_unsealed
 returns-then-is_unsealed c =
     let a = c.args in
     let p = a.p in
-    let l = c.loop-z in record { upper_bound = omega (arith, c.loop-z-test.true); by_index = λ off im h k r. let v = view_of p off im a.pointers.now in
+    let l = c.loop-z in record {
+      upper_bound = omega (arith, c.loop-z-test.true);
+      by_index = λ off im h k r. let v = view_of p off im a.pointers.now in
           sym (lowest_turn (unsealed_at p v a.gone) p.Z l.z p.Z c.loop-z-test.true
           (sym (unsealed_is p v a.gone a.rows.now a.kept.now r k l.z c.loop-z-test.true) ∙ sym (c.is_unsealed.ensures off im h) ∙ c.if-is_unsealed.true))
-          ∙ l.invariant.1 off im h k r }
+          ∙ l.invariant.1 off im h k r;
+    }
 
 pub overflow_add-z : goal.overflow_add-z
 overflow_add-z c = omega arith
@@ -51,4 +54,8 @@ pub returns : goal.returns
 returns c =
     let a = c.args in
     let p = a.p in
-    let l = c.loop-z in record { upper_bound = omega arith; by_index = λ off im h k r. sym (lowest_end (unsealed_at p (view_of p off im a.pointers.now) a.gone) p.Z l.z p.Z (omega (arith, c.loop-z-test.false))) ∙ l.invariant.1 off im h k r }
+    let l = c.loop-z in record {
+      upper_bound = omega arith;
+      by_index = λ off im h k r. sym
+          (lowest_end (unsealed_at p (view_of p off im a.pointers.now) a.gone) p.Z l.z p.Z (omega (arith, c.loop-z-test.false))) ∙ l.invariant.1 off im h k r;
+    }

@@ -51,4 +51,9 @@ returns c =
     let l = c.loop-d in
     let f : ℕ → ℕ = λ c. first_or 0 (keep (free_in p a.offline.now a.marks.now c) (below p.Z)) in
     let n : l.d ≡ p.N = omega (arith, l.invariant.0, c.loop-d-test.false) in
-    let s = ap (λ (x : List ℕ). seg x) (l.invariant.1 ∙ ap (filled_to f) n) ∙ filled_with p f in record { by_index = (λ im ps gone t. s ∙ sym (free_seg_by p a.offline.now im ps gone a.marks.now t)); zones_low = with_low p f 0 (seg l.zones) s (λ d hd q. first_low (free_in p a.offline.now a.marks.now d) p.Z (omega (arith, (ranged p c.requires.p_value).zones_low))) }
+    let s = ap (λ (x : List ℕ). seg x) (l.invariant.1 ∙ ap (filled_to f) n)
+    ∙ filled_with p f in record {
+      by_index = (λ im ps gone t. s ∙ sym (free_seg_by p a.offline.now im ps gone a.marks.now t));
+      zones_low = with_low p f 0
+          (seg l.zones) s (λ d hd q. first_low (free_in p a.offline.now a.marks.now d) p.Z (omega (arith, (ranged p c.requires.p_value).zones_low)));
+    }

@@ -24,11 +24,14 @@ row-requires c =
 
 pub is_sealed-requires : goal.is_sealed-requires
 is_sealed-requires c =
-    let a = c.args in record { p_value = c.requires.p_value; pointers_len = (
+    let a = c.args in record {
+      p_value = c.requires.p_value;
+      pointers_len = (
         c.requires.pointers_len.0,
         subst (ZonesLow a.p a.gone) (sym c.row.ensures)
             (c.requires.pointers_len.1.2 a.z c.requires.pointers_len.2 (not-false (get_or a.kept.now a.z false) c.if-not-kept-z.false-raw)),
-      ) }
+      );
+    }
 
 pub returns : goal.returns
 returns c =

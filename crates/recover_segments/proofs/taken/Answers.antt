@@ -19,7 +19,11 @@ bounds-kept-z c = omega (arith, c.requires.z_in_bounds.0, c.loop-z-test.true)
 
 pub mark_if-requires : goal.mark_if-requires
 mark_if-requires c =
-    let k = c.clear_marks.auto.marks in record { p_value = c.requires.p_value; z_in_bounds = (omega (arith, c.requires.z_in_bounds.2, c.loop-z.invariant.1, k), c.requires.z_in_bounds.1, c.loop-z-test.true) }
+    let k = c.clear_marks.auto.marks in record {
+      p_value = c.requires.p_value;
+      z_in_bounds =
+          (omega (arith, c.requires.z_in_bounds.2, c.loop-z.invariant.1, k), c.requires.z_in_bounds.1, c.loop-z-test.true);
+    }
 
 pub overflow_add-z : goal.overflow_add-z
 overflow_add-z c = omega arith

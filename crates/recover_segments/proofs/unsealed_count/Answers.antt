@@ -44,30 +44,36 @@ loop-z-preserved c =
     × ((off im : List ℕ) → length im ≡ image_len p → Keeps p (view_of p off im a.pointers.now) a.gone a.kept.now
     → FlagsRows p (view_of p off im a.pointers.now) a.gone a.rows.now
     → c.if-is_unsealed.n + length (keep (f off im) (up_from (l.z + 1) (p.Z - (l.z + 1)))) ≡ length (keep (f off im) (below p.Z))) =
-    elim c.if-is_unsealed.branch [ then-is_unsealed w ↦ (
-      omega (arith, if1.true),
-      omega (arith, w.n-is),
-      λ off im h k r. ap (λ (x : ℕ). x + length (keep (f off im) (up_from (l.z + 1) (p.Z - (l.z + 1))))) w.n-is
-          ∙ sym (kept-one (f off im) l.z p.Z l.n if1.true
-          (sym (unsealed_is p (view_of p off im a.pointers.now) a.gone a.rows.now a.kept.now r k l.z if1.true)
-          ∙ sym (c.is_unsealed.ensures off im h) ∙ w.if-is_unsealed.true))
-          ∙ l.invariant.2 off im h k r,
-    ) | else-is_unsealed w ↦ (
-      omega (arith, if1.true),
-      omega (arith, w.n-is),
-      λ off im h k r. ap (λ (x : ℕ). x + length (keep (f off im) (up_from (l.z + 1) (p.Z - (l.z + 1))))) w.n-is
-          ∙ sym (kept_none (f off im) l.z p.Z l.n if1.true
-          (sym (unsealed_is p (view_of p off im a.pointers.now) a.gone a.rows.now a.kept.now r k l.z if1.true)
-          ∙ sym (c.is_unsealed.ensures off im h) ∙ w.if-is_unsealed.false))
-          ∙ l.invariant.2 off im h k r,
-    ) ] in
+    elim c.if-is_unsealed.branch [
+      | then-is_unsealed w ↦ (
+        omega (arith, if1.true),
+        omega (arith, w.n-is),
+        λ off im h k r. ap (λ (x : ℕ). x + length (keep (f off im) (up_from (l.z + 1) (p.Z - (l.z + 1))))) w.n-is
+            ∙ sym (kept-one (f off im) l.z p.Z l.n if1.true
+            (sym (unsealed_is p (view_of p off im a.pointers.now) a.gone a.rows.now a.kept.now r k l.z if1.true)
+            ∙ sym (c.is_unsealed.ensures off im h) ∙ w.if-is_unsealed.true))
+            ∙ l.invariant.2 off im h k r,
+      )
+      | else-is_unsealed w ↦ (
+        omega (arith, if1.true),
+        omega (arith, w.n-is),
+        λ off im h k r. ap (λ (x : ℕ). x + length (keep (f off im) (up_from (l.z + 1) (p.Z - (l.z + 1))))) w.n-is
+            ∙ sym (kept_none (f off im) l.z p.Z l.n if1.true
+            (sym (unsealed_is p (view_of p off im a.pointers.now) a.gone a.rows.now a.kept.now r k l.z if1.true)
+            ∙ sym (c.is_unsealed.ensures off im h) ∙ w.if-is_unsealed.false))
+            ∙ l.invariant.2 off im h k r,
+      )
+    ] in
     b
 
 pub returns : goal.returns
 returns c =
     let a = c.args in
     let l = c.loop-z in
-    let p = a.p in record { upper_bound = omega (arith, l.invariant.1, l.invariant.0); by_index = λ off im h k r. let v = view_of p off im a.pointers.now in
+    let p = a.p in record {
+      upper_bound = omega (arith, l.invariant.1, l.invariant.0);
+      by_index = λ off im h k r. let v = view_of p off im a.pointers.now in
           sym (kept-ended (unsealed_at p v a.gone) l.z p.Z l.n (omega (arith, c.loop-z-test.false)))
           ∙ l.invariant.2 off im h k r
-          ∙ sym (unsealed-length p v a.gone) }
+          ∙ sym (unsealed-length p v a.gone);
+    }

@@ -25,13 +25,15 @@ pub first_unsealed-z-requires : goal.first_unsealed-z-requires
 first_unsealed-z-requires c =
     let a = c.args in
     let q = c.requires in
-    let v = seen a.p a.offline.now (mk_disk a.image.now a.pointers.now) in record { p_value = q.p_value; pointers_len = (q.whole.0.pointers_long, kept-rows-low a.p v 0 a.rows.now a.kept.now q.keeps.1 q.keeps.0 (zero_here a.p (ranged a.p q.p_value))) }
+    let v = seen a.p a.offline.now (mk_disk a.image.now a.pointers.now) in
+    record { p_value = q.p_value; pointers_len = (q.whole.0.pointers_long, kept-rows-low a.p v 0 a.rows.now a.kept.now q.keeps.1 q.keeps.0 (zero_here a.p (ranged a.p q.p_value))) }
 
 pub drop_stores-made-requires : goal.drop_stores-made-requires
 drop_stores-made-requires c =
     let a = c.args in
     let q = c.requires in
-    let v = seen a.p a.offline.now (mk_disk a.image.now a.pointers.now) in record { p_value = q.p_value; whole = q.whole; drops = taken_drops a.p (ranged a.p q.p_value) v q.refit_ready.accepted a.taken.now q.serials.1.0 q.serials.1.1 }
+    let v = seen a.p a.offline.now (mk_disk a.image.now a.pointers.now) in
+    record { p_value = q.p_value; whole = q.whole; drops = taken_drops a.p (ranged a.p q.p_value) v q.refit_ready.accepted a.taken.now q.serials.1.0 q.serials.1.1 }
 
 pub returns-then-made : goal.returns-then-made
 returns-then-made c =
@@ -88,11 +90,16 @@ missing_footers-requires c =
     let found = first.ensures.by_index a.offline.now a.image.now w.image_long q.keeps.0 q.keeps.1 in
     let o = row_open p r v a.rows.now a.kept.now q.keeps.1 q.keeps.0 first.result found low sn.shaped sn.accepted in
     let said = q.mend_marks (segment_of p v 0 sg) o.open_is in
-    let wh = sym said.0 ∙ c.if-whole.true in rw c.row-segment.ensures (record { p_value = q.p_value; whole = refit_whole p r a.offline.now a.count k w sn drop.result k₁ drop.ensures c₁; zones_low = (
-            unsealed-low p r a.offline.now a.count k w sn drop.result k₁ drop.ensures c₁ sg o,
-            feet_pointers p r a.offline.now a.count k w sn drop.result k₁ drop.ensures
-                c₁ sg o wh,
-          ); by_index = feet_fit p r a.offline.now a.count k w sn drop.result k₁ drop.ensures c₁ sg o wh })
+    let wh = sym said.0 ∙ c.if-whole.true in rw c.row-segment.ensures (record {
+      p_value = q.p_value;
+      whole = refit_whole p r a.offline.now a.count k w sn drop.result k₁ drop.ensures c₁;
+      zones_low = (
+        unsealed-low p r a.offline.now a.count k w sn drop.result k₁ drop.ensures c₁ sg o,
+        feet_pointers p r a.offline.now a.count k w sn drop.result k₁ drop.ensures
+            c₁ sg o wh,
+      );
+      by_index = feet_fit p r a.offline.now a.count k w sn drop.result k₁ drop.ensures c₁ sg o wh;
+    })
 
 pub returns-then-whole : goal.returns-then-whole
 returns-then-whole c =
@@ -210,20 +217,27 @@ rewrite-requires c =
     let most = c.greatest_serial-most in
     let serial = most.result.0 + 1 in
     let es = add-one most.result.0 ∙ ap suc (most.ensures v 0 (zero_here p r) q.keeps.0 q.serials.0) in
-    let old = row_serial p r v a.rows.now a.kept.now q.keeps.1 q.keeps.0 first.result found low a.serials.now q.serials.0 in rw c.row-segment.ensures (record { p_value = q.p_value; whole = refit_whole p r a.offline.now a.count k w sn drop.result k₁ drop.ensures c₁; zones_low = (
-            unsealed-low p r a.offline.now a.count k w sn drop.result k₁ drop.ensures c₁ sg o,
-            free.ensures.zones_low,
-            to_apart p r a.offline.now a.count k w sn drop.result k₁
-                drop.ensures c₁ sg o nw rg to et,
-          ); by_index = λ list. (
-              still_open p r a.offline.now a.count k w sn drop.result k₁ drop.ensures c₁ sg o nw rg to et list,
-              still_good p r a.offline.now a.count k w sn
-                  drop.result k₁ drop.ensures c₁ sg o nw rg to et list,
-            ); by_index_2 = (
-                old_serial p r a.offline.now a.count k w sn drop.result k₁ drop.ensures c₁ sg o nw rg to et (get_or a.serials.now first.result 0) old,
-                to_empty p r
-                    a.offline.now a.count k w sn drop.result k₁ drop.ensures c₁ sg o nw rg to et,
-              ); by_index_3 = moves_fit p r a.offline.now a.count k w sn drop.result k₁ drop.ensures c₁ sg o nw rg to et serial es })
+    let old = row_serial p r v a.rows.now a.kept.now q.keeps.1 q.keeps.0 first.result found low a.serials.now q.serials.0 in rw c.row-segment.ensures (record {
+      p_value = q.p_value;
+      whole = refit_whole p r a.offline.now a.count k w sn drop.result k₁ drop.ensures c₁;
+      zones_low = (
+        unsealed-low p r a.offline.now a.count k w sn drop.result k₁ drop.ensures c₁ sg o,
+        free.ensures.zones_low,
+        to_apart p r a.offline.now a.count k w sn drop.result k₁
+            drop.ensures c₁ sg o nw rg to et,
+      );
+      by_index = λ list. (
+        still_open p r a.offline.now a.count k w sn drop.result k₁ drop.ensures c₁ sg o nw rg to et list,
+        still_good p r a.offline.now a.count k w sn
+            drop.result k₁ drop.ensures c₁ sg o nw rg to et list,
+      );
+      by_index_2 = (
+        old_serial p r a.offline.now a.count k w sn drop.result k₁ drop.ensures c₁ sg o nw rg to et (get_or a.serials.now first.result 0) old,
+        to_empty p r
+            a.offline.now a.count k w sn drop.result k₁ drop.ensures c₁ sg o nw rg to et,
+      );
+      by_index_3 = moves_fit p r a.offline.now a.count k w sn drop.result k₁ drop.ensures c₁ sg o nw rg to et serial es;
+    })
 
 pub returns : goal.returns
 returns c =

@@ -29,8 +29,11 @@ is_entered-requires c =
 pub returns-then-not-is_entered : goal.returns-then-not-is_entered
 returns-then-not-is_entered c =
     let i = c.is_entered in
-    let loop = c.loop-d in record { all_entered = (λ q. absurd (not_both false q refl)); value = (λ f.
-          absurd (not_both i.result (i.ensures.value (λ e. f loop.d c.loop-d-test.true e)) (not-true i.result c.if-not-is_entered.true-raw))) }
+    let loop = c.loop-d in record {
+      all_entered = (λ q. absurd (not_both false q refl));
+      value = (λ f.
+          absurd (not_both i.result (i.ensures.value (λ e. f loop.d c.loop-d-test.true e)) (not-true i.result c.if-not-is_entered.true-raw)));
+    }
 
 pub overflow_add-d : goal.overflow_add-d
 overflow_add-d c =

@@ -52,11 +52,14 @@ overflow_cast-o c =
 
 pub returns-then-o-eq0 : goal.returns-then-o-eq0
 returns-then-o-eq0 c =
-    let a = c.args in record { entered = (λ q _. absurd (not_both false q refl)); value = (λ f.
+    let a = c.args in record {
+      entered = (λ q _. absurd (not_both false q refl));
+      value = (λ f.
           let e : is_in a.w.gone a.drive ≡ false = sym c.has_drive.ensures ∙ c.if-has_drive.false in
           let w : 1 ≤ get_or a.at.now (256 * a.drive + a.k) 0 = (f e).0 in
           let z : get_or a.at.now (256 * a.drive + a.k) 0 ≡ 0 = c.if-o-eq0.true in
-          absurd (let q : ⊥ = omega (arith, w, z) in q)) }
+          absurd (let q : ⊥ = omega (arith, w, z) in q));
+    }
 
 pub returns : goal.returns
 returns c =
@@ -64,4 +67,9 @@ returns c =
     let has-drive = c.has_drive in
     let o = get_or a.at.now (256 * a.drive + a.k) 0 in
     let e : is_in a.w.gone a.drive ≡ false = sym has-drive.ensures ∙ c.if-has_drive.false in
-    let z : o ≡ 0 → ⊥ = c.if-o-eq0.false in record { entered = (λ q _. (omega (arith, z), subst (λ (x : ℕ). o ≤ x) c.group_len.ensures.0 (leb-true o c.group_len.result q))); value = (λ f. le-leb o c.group_len.result (subst (λ (x : ℕ). o ≤ x) (sym c.group_len.ensures.0) (f e).1)) }
+    let z : o ≡ 0 → ⊥ = c.if-o-eq0.false in record {
+      entered =
+          (λ q _. (omega (arith, z), subst (λ (x : ℕ). o ≤ x) c.group_len.ensures.0 (leb-true o c.group_len.result q)));
+      value =
+          (λ f. le-leb o c.group_len.result (subst (λ (x : ℕ). o ≤ x) (sym c.group_len.ensures.0) (f e).1));
+    }

@@ -56,7 +56,13 @@ lost_rec-requires c =
     let p = a.p in
     let w = a.w in
     let i = c.is_all_entered in
-    let d = (ranged p h.p_value).drives_low in record { p_value = h.p_value; image_len = (h.image_len.0, h.image_len.1, h.image_len.2, h.image_len.3, omega (arith, d), h.image_len.4); all_entered = i.ensures.all_entered (not-false i.result c.if-not-is_all_entered.false-raw) }
+    let d = (ranged p h.p_value).drives_low in
+    record {
+      p_value = h.p_value;
+      image_len = (h.image_len.0, h.image_len.1, h.image_len.2, h.image_len.3, omega (arith, d), h.image_len.4);
+      all_entered =
+          i.ensures.all_entered (not-false i.result c.if-not-is_all_entered.false-raw);
+    }
 
 pub returns : goal.returns
 returns c =

@@ -37,7 +37,13 @@ survey_group-t-requires c =
     let h = c.requires in
     let p = a.p in
     let l = c.loop-base in
-    let k = c.loop-base-test.true in record { p_value = h.p_value; whole = h.whole; at_len = (l.invariant.0, h.at_len.1, k, l.invariant.2); counted_le_base = (omega (arith, k, l.invariant.3), omega (arith, k, l.invariant.4)) }
+    let k = c.loop-base-test.true in record {
+      p_value = h.p_value;
+      whole = h.whole;
+      at_len = (l.invariant.0, h.at_len.1, k, l.invariant.2);
+      counted_le_base =
+          (omega (arith, k, l.invariant.3), omega (arith, k, l.invariant.4));
+    }
 
 pub overflow_add-base : goal.overflow_add-base
 overflow_add-base c =

@@ -18,8 +18,10 @@ abbrev pub invariant-loop-base : goal.invariant-loop-base
 invariant-loop-base l =
     (length l.at ≡ 2048) × (l.base < l.p.S + l.p.G) × (l.base % l.p.G ≡ 0) × (l.t.counted ≤ min l.base l.p.S) × (l.t.loose ≤ min l.base l.p.S)
     × ((off : List ℕ) → l.full ≡ sealed_in l.p (view_of l.p off l.image l.pointers) l.gone l.seg → l.t.bad ≡ false
-    → any (group_fault l.p l.gone (segment_of l.p (view_of l.p off l.image l.pointers) l.gone l.seg)) (bases_from l.p l.base) ≡ recs_fault l.p l.gone (segment_of l.p (view_of l.p off l.image l.pointers) l.gone l.seg))
-    × ((off : List ℕ) → l.full ≡ sealed_in l.p (view_of l.p off l.image l.pointers) l.gone l.seg → Tallied l.p l.gone (segment_of l.p (view_of l.p off l.image l.pointers) l.gone l.seg) (min l.base l.p.S) l.t)
+    → any (group_fault l.p l.gone (segment_of l.p (view_of l.p off l.image l.pointers) l.gone l.seg)) (bases_from l.p l.base) ≡ recs_fault l.p l.gone
+    (segment_of l.p (view_of l.p off l.image l.pointers) l.gone l.seg))
+    × ((off : List ℕ) → l.full ≡ sealed_in l.p (view_of l.p off l.image l.pointers) l.gone l.seg
+    → Tallied l.p l.gone (segment_of l.p (view_of l.p off l.image l.pointers) l.gone l.seg) (min l.base l.p.S) l.t)
 
 abbrev pub decreases-loop-base : goal.decreases-loop-base
 decreases-loop-base l = l.p.S - l.base

@@ -43,25 +43,28 @@ returns-then-lost_bad c =
     let p = a.p in
     let w = a.w in
     let t = a.t in
-    let s = w.base + a.k in record { counted_bound_2 = (subst (λ (r : Tally). ((r.counted ≤ s + 1) × (r.loose ≤ s + 1) × (r.bad ≡ false → t.bad ≡ false))
-    × ((off ps : List ℕ) → Shown p off a.image.now ps w a.at.now → Tallied p w.gone (segment_in p off a.image.now ps w) s t
-    → Tallied p w.gone (segment_in p off a.image.now ps w) (s + 1) r))
-    (sym c.bad_tally.ensures) (
-      (omega (arith, h.counted_bound.0), omega (arith, h.counted_bound.1), λ q. absurd (not_both true refl q)),
-      λ off ps sh T. passes_bad p w.gone (segment_in p off a.image.now ps w) s t T (λ rf.
-          let ct : counts p w.gone (segment_in p off a.image.now ps w) s ≡ true =
-          sym (counts'.ensures (segment_in p off a.image.now ps w) w.base (sh.2 rf) h.image_len.4) ∙ if1.true in
-          (ct, sym (z.ensures off ps sh rf ct) ∙ c.if-lost_bad.true)),
-    )).0; by_index = (subst (λ (r : Tally). ((r.counted ≤ s + 1) × (r.loose ≤ s + 1) × (r.bad ≡ false → t.bad ≡ false))
-    × ((off ps : List ℕ) → Shown p off a.image.now ps w a.at.now → Tallied p w.gone (segment_in p off a.image.now ps w) s t
-    → Tallied p w.gone (segment_in p off a.image.now ps w) (s + 1) r))
-    (sym c.bad_tally.ensures) (
-      (omega (arith, h.counted_bound.0), omega (arith, h.counted_bound.1), λ q. absurd (not_both true refl q)),
-      λ off ps sh T. passes_bad p w.gone (segment_in p off a.image.now ps w) s t T (λ rf.
-          let ct : counts p w.gone (segment_in p off a.image.now ps w) s ≡ true =
-          sym (counts'.ensures (segment_in p off a.image.now ps w) w.base (sh.2 rf) h.image_len.4) ∙ if1.true in
-          (ct, sym (z.ensures off ps sh rf ct) ∙ c.if-lost_bad.true)),
-    )).1 }
+    let s = w.base + a.k in record {
+      counted_bound_2 = (subst (λ (r : Tally). ((r.counted ≤ s + 1) × (r.loose ≤ s + 1) × (r.bad ≡ false → t.bad ≡ false))
+          × ((off ps : List ℕ) → Shown p off a.image.now ps w a.at.now → Tallied p w.gone (segment_in p off a.image.now ps w) s t
+          → Tallied p w.gone (segment_in p off a.image.now ps w) (s + 1) r))
+          (sym c.bad_tally.ensures) (
+            (omega (arith, h.counted_bound.0), omega (arith, h.counted_bound.1), λ q. absurd (not_both true refl q)),
+            λ off ps sh T. passes_bad p w.gone (segment_in p off a.image.now ps w) s t T (λ rf.
+                let ct : counts p w.gone (segment_in p off a.image.now ps w) s ≡ true =
+                sym (counts'.ensures (segment_in p off a.image.now ps w) w.base (sh.2 rf) h.image_len.4) ∙ if1.true in
+                (ct, sym (z.ensures off ps sh rf ct) ∙ c.if-lost_bad.true)),
+          )).0;
+      by_index = (subst (λ (r : Tally). ((r.counted ≤ s + 1) × (r.loose ≤ s + 1) × (r.bad ≡ false → t.bad ≡ false))
+          × ((off ps : List ℕ) → Shown p off a.image.now ps w a.at.now → Tallied p w.gone (segment_in p off a.image.now ps w) s t
+          → Tallied p w.gone (segment_in p off a.image.now ps w) (s + 1) r))
+          (sym c.bad_tally.ensures) (
+            (omega (arith, h.counted_bound.0), omega (arith, h.counted_bound.1), λ q. absurd (not_both true refl q)),
+            λ off ps sh T. passes_bad p w.gone (segment_in p off a.image.now ps w) s t T (λ rf.
+                let ct : counts p w.gone (segment_in p off a.image.now ps w) s ≡ true =
+                sym (counts'.ensures (segment_in p off a.image.now ps w) w.base (sh.2 rf) h.image_len.4) ∙ if1.true in
+                (ct, sym (z.ensures off ps sh rf ct) ∙ c.if-lost_bad.true)),
+          )).1;
+    }
 
 pub overflow_add-result : goal.overflow_add-result
 overflow_add-result c =
@@ -105,10 +108,13 @@ returns-then-counts c =
     let w = a.w in
     let t = a.t in
     let s = w.base + a.k in
-    let z = lost-bad in record { counted_bound_2 = (omega (arith, h.counted_bound.0), omega (arith, h.counted_bound.1), λ q. q); by_index = λ off ps sh T. passes_counted p w.gone (segment_in p off a.image.now ps w) s t T (λ rf.
+    let z = lost-bad in record {
+      counted_bound_2 = (omega (arith, h.counted_bound.0), omega (arith, h.counted_bound.1), λ q. q);
+      by_index = λ off ps sh T. passes_counted p w.gone (segment_in p off a.image.now ps w) s t T (λ rf.
           let ct : counts p w.gone (segment_in p off a.image.now ps w) s ≡ true =
           sym (counts'.ensures (segment_in p off a.image.now ps w) w.base (sh.2 rf) h.image_len.4) ∙ if1.true in
-          (ct, sym (z.ensures off ps sh rf ct) ∙ if2.false)) }
+          (ct, sym (z.ensures off ps sh rf ct) ∙ if2.false));
+    }
 
 pub chunks-requires : goal.chunks-requires
 chunks-requires c =
@@ -128,13 +134,16 @@ returns-then-chunks-eq0 c =
     let w = a.w in
     let t = a.t in
     let s = w.base + a.k in
-    let x = c.chunks in record { counted_bound_2 = (omega (arith, h.counted_bound.0), omega (arith, h.counted_bound.1), λ q. q); by_index = λ off ps sh T. passes_none p w.gone (segment_in p off a.image.now ps w) s t T (λ rf.
+    let x = c.chunks in record {
+      counted_bound_2 = (omega (arith, h.counted_bound.0), omega (arith, h.counted_bound.1), λ q. q);
+      by_index = λ off ps sh T. passes_none p w.gone (segment_in p off a.image.now ps w) s t T (λ rf.
           let ct : counts p w.gone (segment_in p off a.image.now ps w) s ≡ false =
           sym (counts'.ensures (segment_in p off a.image.now ps w) w.base (sh.2 rf) h.image_len.4) ∙ if1.false in (
             ct,
             loose_none p (view_of p off a.image.now ps) w.gone w.seg s x.result (length (present p w.gone))
                 (x.ensures.value (segment_in p off a.image.now ps w) w.base (sh.2 rf) h.image_len.4) refl c.if-chunks-eq0.true,
-          )) }
+          ));
+    }
 
 pub overflow_add-result-2 : goal.overflow_add-result-2
 overflow_add-result-2 c =
@@ -157,10 +166,13 @@ returns c =
     let w = a.w in
     let t = a.t in
     let s = w.base + a.k in
-    let x = chunks in record { counted_bound_2 = (omega (arith, h.counted_bound.0), omega (arith, h.counted_bound.1), λ q. q); by_index = λ off ps sh T. passes_loose p w.gone (segment_in p off a.image.now ps w) s t T (λ rf.
+    let x = chunks in record {
+      counted_bound_2 = (omega (arith, h.counted_bound.0), omega (arith, h.counted_bound.1), λ q. q);
+      by_index = λ off ps sh T. passes_loose p w.gone (segment_in p off a.image.now ps w) s t T (λ rf.
           let ct : counts p w.gone (segment_in p off a.image.now ps w) s ≡ false =
           sym (counts'.ensures (segment_in p off a.image.now ps w) w.base (sh.2 rf) h.image_len.4) ∙ if1.false in (
             ct,
             loose_counts p (view_of p off a.image.now ps) w.gone w.seg s x.result (length (present p w.gone))
                 (x.ensures.value (segment_in p off a.image.now ps w) w.base (sh.2 rf) h.image_len.4) refl ct c.if-chunks-eq0.false,
-          )) }
+          ));
+    }

@@ -36,7 +36,8 @@ survey_stripe-next-requires c =
     let p = a.p in
     let w = a.w in
     let l = c.loop-k in
-    let e : l.k < group_len p w.base = subst (λ (x : ℕ). l.k < x) c.group_len-len.ensures.0 c.loop-k-test.true in record { p_value = h.p_value; image_len = (h.image_len.0, h.image_len.1, h.image_len.2, h.image_len.3, e); counted_bound = (l.invariant.1, l.invariant.2) }
+    let e : l.k < group_len p w.base = subst (λ (x : ℕ). l.k < x) c.group_len-len.ensures.0 c.loop-k-test.true in
+    record { p_value = h.p_value; image_len = (h.image_len.0, h.image_len.1, h.image_len.2, h.image_len.3, e); counted_bound = (l.invariant.1, l.invariant.2) }
 
 pub overflow_add-k : goal.overflow_add-k
 overflow_add-k c =
@@ -70,4 +71,12 @@ returns c =
     let p = a.p in
     let w = a.w in
     let l = c.loop-k in
-    let e : l.k ≡ group_len p w.base = let f : l.k ≤ group-len.result = l.invariant.0 in omega (arith, f, c.loop-k-test.false, group-len.ensures.0) in record { counted_bound = (subst (λ (x : ℕ). l.next.counted ≤ w.base + x) e l.invariant.1, subst (λ (x : ℕ). l.next.loose ≤ w.base + x) e l.invariant.2, l.invariant.3); by_index = λ off ps sh T. subst (λ (x : ℕ). Tallied p w.gone (segment_in p off a.image.now ps w) (w.base + x) l.next) e (l.invariant.4 off ps sh T) }
+    let e : l.k ≡ group_len p w.base = let f : l.k ≤ group-len.result = l.invariant.0 in omega (arith, f, c.loop-k-test.false, group-len.ensures.0) in
+    record {
+      counted_bound = (
+        subst (λ (x : ℕ). l.next.counted ≤ w.base + x) e l.invariant.1,
+        subst (λ (x : ℕ). l.next.loose ≤ w.base + x) e l.invariant.2,
+        l.invariant.3,
+      );
+      by_index = λ off ps sh T. subst (λ (x : ℕ). Tallied p w.gone (segment_in p off a.image.now ps w) (w.base + x) l.next) e (l.invariant.4 off ps sh T);
+    }

@@ -22,7 +22,17 @@ offset_of-offset-requires c =
     let a = c.args in
     let q = c.requires in
     let r : Ranged a.p = ranged a.p q.p_value in
-    let (off, ps, rd, cn) = q.reads_stripe in record { at_len = (q.image_len.1, omega (arith, q.image_len.4, r.drives_high), stripe_byte a.p off a.image.now ps a.w a.at.now a.k r q.image_len.5, omega (arith, q.image_len.3, r.stripes_high)); bound = λ e. (reading_entered a.p off a.image.now ps a.w a.at.now a.k rd q.image_len.5 cn a.drive q.image_len.4 e).0 }
+    let (off, ps, rd, cn) = q.reads_stripe in
+    record {
+      at_len = (
+        q.image_len.1,
+        omega (arith, q.image_len.4, r.drives_high),
+        stripe_byte a.p off a.image.now ps a.w a.at.now a.k r q.image_len.5,
+        omega
+            (arith, q.image_len.3, r.stripes_high),
+      );
+      bound = λ e. (reading_entered a.p off a.image.now ps a.w a.at.now a.k rd q.image_len.5 cn a.drive q.image_len.4 e).0;
+    }
 
 pub zone_on-zone-requires : goal.zone_on-zone-requires
 zone_on-zone-requires c =
@@ -50,7 +60,8 @@ place_of-place-requires c =
     let l : c.offset_of-offset.result < a.p.S =
     subst (λ (x : ℕ). x < a.p.S) (sym e)
     (offset_fits a.p off a.image.now ps a.w a.at.now a.k a.drive q.image_len.3 q.image_len.5 q.image_len.4 rd cn) in
-    let hz : c.zone_on-zone.result < a.p.Z = subst (λ (x : ℕ). x < a.p.Z) (sym c.zone_on-zone.ensures) q.image_len.6 in record { p_value = q.p_value; drive_lt_n = (q.image_len.4, hz, data_below a.p r (1 + c.offset_of-offset.result) (omega (arith, l))) }
+    let hz : c.zone_on-zone.result < a.p.Z = subst (λ (x : ℕ). x < a.p.Z) (sym c.zone_on-zone.ensures) q.image_len.6 in
+    record { p_value = q.p_value; drive_lt_n = (q.image_len.4, hz, data_below a.p r (1 + c.offset_of-offset.result) (omega (arith, l))) }
 
 pub returns : goal.returns
 returns c =

@@ -27,7 +27,13 @@ index_drive-requires c =
     let r = c.clear_row in
     let a = c.args in
     let q = c.requires in
-    let f = group_len_le a.p a.w.base in record { p_value = q.p_value; pointers_len = (q.pointers_len.0, q.pointers_len.1, r.auto.at ∙ q.pointers_len.2); drive_lt_n = (q.drive_lt_n.0, q.drive_lt_n.1, q.drive_lt_n.2, q.drive_lt_n.3, sym c.has_drive.ensures ∙ c.if-has_drive.false); by_index = λ k hk. r.ensures.by_index k (omega (arith, f, hk)) }
+    let f = group_len_le a.p a.w.base in record {
+      p_value = q.p_value;
+      pointers_len = (q.pointers_len.0, q.pointers_len.1, r.auto.at ∙ q.pointers_len.2);
+      drive_lt_n =
+          (q.drive_lt_n.0, q.drive_lt_n.1, q.drive_lt_n.2, q.drive_lt_n.3, sym c.has_drive.ensures ∙ c.if-has_drive.false);
+      by_index = λ k hk. r.ensures.by_index k (omega (arith, f, hk));
+    }
 
 pub returns : goal.returns
 returns c =

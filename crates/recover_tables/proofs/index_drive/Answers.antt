@@ -44,7 +44,8 @@ entry_at-requires c =
     let a = c.args in
     let q = c.requires in
     let h = q.drive_lt_n in
-    let z = low_zone a.p a.w.gone a.w.seg a.drive h.1 h.0 h.4 in record { p_value = q.p_value; compact_len = (q.pointers_len.1, h.0, z, h.2, omega (arith, c.loop-i-test.true, c.group_stored-n.ensures.upper_bound)) }
+    let z = low_zone a.p a.w.gone a.w.seg a.drive h.1 h.0 h.4 in
+    record { p_value = q.p_value; compact_len = (q.pointers_len.1, h.0, z, h.2, omega (arith, c.loop-i-test.true, c.group_stored-n.ensures.upper_bound)) }
 
 pub overflow_add-j : goal.overflow_add-j
 overflow_add-j c =

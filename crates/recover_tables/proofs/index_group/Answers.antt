@@ -21,7 +21,12 @@ loop-d-init c = (omega arith, c.requires.pointers_len.2, λ off im G m sh e h. a
 
 pub index_any-requires : goal.index_any-requires
 index_any-requires c =
-    let q = c.requires in record { p_value = q.p_value; pointers_len = (q.pointers_len.0, q.pointers_len.1, c.loop-d.invariant.1); drive_lt_n = (c.loop-d-test.true, q.zones_low.0, q.zones_low.1, q.zones_low.2) }
+    let q = c.requires in record {
+      p_value = q.p_value;
+      pointers_len = (q.pointers_len.0, q.pointers_len.1, c.loop-d.invariant.1);
+      drive_lt_n =
+          (c.loop-d-test.true, q.zones_low.0, q.zones_low.1, q.zones_low.2);
+    }
 
 pub overflow_add-d : goal.overflow_add-d
 overflow_add-d c = omega arith
@@ -37,8 +42,7 @@ loop-d-preserved c =
     let index-any = c.index_any in
     let if1 = c.loop-d-test in
     let p = a.p in
-    let w = a.w in
-    (
+    let w = a.w in (
       omega (arith, if1.true),
       index-any.auto.at ∙ l.invariant.1,
       λ off im G m sh.

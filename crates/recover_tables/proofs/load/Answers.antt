@@ -24,7 +24,8 @@ pub load_tables-h-requires : goal.load_tables-h-requires
 load_tables-h-requires c =
     let a = c.args in
     let q = c.requires in
-    let few = offline_high a.p (ranged a.p q.p_value) in record { p_value = q.p_value; whole = (q.whole, few, λ t h. get_or-replicate 8192 t 1024 0 (omega (arith, h, few))); addresses_len = q.addresses_len; loading = q.loading }
+    let few = offline_high a.p (ranged a.p q.p_value) in
+    record { p_value = q.p_value; whole = (q.whole, few, λ t h. get_or-replicate 8192 t 1024 0 (omega (arith, h, few))); addresses_len = q.addresses_len; loading = q.loading }
 
 pub state_of-requires : goal.state_of-requires
 state_of-requires c =

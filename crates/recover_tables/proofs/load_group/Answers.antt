@@ -17,7 +17,8 @@ index_group-requires c =
     let q = c.requires in
     let x = q.at_len in
     let v : View = view_of a.p a.offline.now a.image.now a.pointers.now in
-    let low = remaining-low a.p v a.w.gone q.ground.here a.w.seg x.4 in record { p_value = q.ground.in_range_holds; pointers_len = (q.ground.whole.pointers_long, q.ground.compact_long, x.0); zones_low = (low, x.1, x.2) }
+    let low = remaining-low a.p v a.w.gone q.ground.here a.w.seg x.4 in
+    record { p_value = q.ground.in_range_holds; pointers_len = (q.ground.whole.pointers_long, q.ground.compact_long, x.0); zones_low = (low, x.1, x.2) }
 
 pub group_len-len-requires : goal.group_len-len-requires
 group_len-len-requires c =
@@ -40,25 +41,30 @@ load_if-next-requires c =
     let x = q.at_len in
     let v : View = view_of a.p a.offline.now a.image.now a.pointers.now in
     let rd : GroupReads a.p a.offline.now a.image.now a.pointers.now a.w i.new.at =
-    record { long = q.ground.whole.pointers_long; full_right = x.3; indexed = i.ensures a.offline.now a.image.now q.ground x.4 x.5 } in record { ground = q.ground; gathered = q.gathered; indexing = (
-            record {
-              reads = rd;
-              long = i.auto.at ∙ x.0;
-              base_low = x.1;
-              stripe_in_holds = subst (λ (n : ℕ). l.k < n) group-len.ensures.0 loop-test.true;
-              remains = x.4;
-              shown = x.5;
-            },
-            (
-                let w = a.w in
-                let t = a.t in
-                let y = l.next in
-                let low = walked_low a.p v w.gone a.compact.now w.seg (up_from w.base l.k) a.addresses.now l.addresses
-                t.stamp.0 y.stamp.0 t.counted y.counted l.invariant.2 in
-                omega (arith, low, length_up_from w.base l.k, x.6)
-                ),
-          ); known = tells_known a.p v a.w.gone a.compact.now a.addresses.now l.addresses
-              (walk_cands a.p a.w.gone (segment_in a.p a.offline.now a.image.now a.pointers.now a.w) (up_from a.w.base l.k)) l.invariant.2.tells q.known }
+    record { long = q.ground.whole.pointers_long; full_right = x.3; indexed = i.ensures a.offline.now a.image.now q.ground x.4 x.5 } in record {
+      ground = q.ground;
+      gathered = q.gathered;
+      indexing = (
+        record {
+          reads = rd;
+          long = i.auto.at ∙ x.0;
+          base_low = x.1;
+          stripe_in_holds = subst (λ (n : ℕ). l.k < n) group-len.ensures.0 loop-test.true;
+          remains = x.4;
+          shown = x.5;
+        },
+        (
+            let w = a.w in
+            let t = a.t in
+            let y = l.next in
+            let low = walked_low a.p v w.gone a.compact.now w.seg (up_from w.base l.k) a.addresses.now l.addresses
+            t.stamp.0 y.stamp.0 t.counted y.counted l.invariant.2 in
+            omega (arith, low, length_up_from w.base l.k, x.6)
+            ),
+      );
+      known = tells_known a.p v a.w.gone a.compact.now a.addresses.now l.addresses
+          (walk_cands a.p a.w.gone (segment_in a.p a.offline.now a.image.now a.pointers.now a.w) (up_from a.w.base l.k)) l.invariant.2.tells q.known;
+    }
 
 pub overflow_add-k : goal.overflow_add-k
 overflow_add-k c = omega arith

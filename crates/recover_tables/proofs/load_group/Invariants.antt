@@ -14,7 +14,8 @@ use Rattle.recover_tables.proofs.load_group.Given as goal
 abbrev pub invariant-loop-k : goal.invariant-loop-k
 invariant-loop-k l =
     (l.k ≤ l.len) × (length l.addresses ≡ length l.initial.addresses)
-    × Walked l.p (view_of l.p l.offline l.image l.pointers) l.w.gone l.compact l.w.seg (up_from l.w.base l.k) l.initial.addresses l.addresses l.initial.next.stamp.0 l.next.stamp.0 l.initial.next.counted l.next.counted
+    × Walked l.p (view_of l.p l.offline l.image l.pointers) l.w.gone l.compact l.w.seg (up_from l.w.base l.k) l.initial.addresses l.addresses l.initial.next.stamp.0
+    l.next.stamp.0 l.initial.next.counted l.next.counted
 
 abbrev pub decreases-loop-k : goal.decreases-loop-k
 decreases-loop-k l = l.len - l.k

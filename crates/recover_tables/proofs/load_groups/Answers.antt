@@ -22,7 +22,8 @@ pub is_sealed-full-requires : goal.is_sealed-full-requires
 is_sealed-full-requires c =
     let args = c.args in
     let pre = c.requires in
-    let v : View = view_of args.p args.offline.now args.image.now args.pointers.now in record { p_value = pre.ground.in_range_holds; pointers_len = (pre.ground.whole.pointers_long, remaining-low args.p v args.gone pre.ground.here args.seg pre.fact.0) }
+    let v : View = view_of args.p args.offline.now args.image.now args.pointers.now in
+    record { p_value = pre.ground.in_range_holds; pointers_len = (pre.ground.whole.pointers_long, remaining-low args.p v args.gone pre.ground.here args.seg pre.fact.0) }
 
 pub loop-base-init : goal.loop-base-init
 loop-base-init c =
@@ -44,15 +45,20 @@ load_group-t-requires c =
     let pre = c.requires in
     let loop = c.loop-base in
     let if1 = c.loop-base-test in
-    let is-sealed = c.is_sealed-full in record { ground = pre.ground; gathered = pre.gathered; at_len = (
-            loop.invariant.1 ∙ pre.known.1,
-            if1.true,
-            loop.invariant.2,
-            is-sealed.ensures args.offline.now args.image.now pre.ground.whole.image_long,
-            pre.fact.0,
-            pre.fact.1,
-            loop.invariant.4,
-          ); known = loop.invariant.5 }
+    let is-sealed = c.is_sealed-full in record {
+      ground = pre.ground;
+      gathered = pre.gathered;
+      at_len = (
+        loop.invariant.1 ∙ pre.known.1,
+        if1.true,
+        loop.invariant.2,
+        is-sealed.ensures args.offline.now args.image.now pre.ground.whole.image_long,
+        pre.fact.0,
+        pre.fact.1,
+        loop.invariant.4,
+      );
+      known = loop.invariant.5;
+    }
 
 pub overflow_add-base : goal.overflow_add-base
 overflow_add-base c =

@@ -16,7 +16,11 @@ pub counts-requires : goal.counts-requires
 counts-requires c =
     let a = c.args in
     let q = c.requires in
-    let k = q.indexing.0 in record { p_value = q.ground.in_range_holds; at_len = (k.long, stripe_byte a.p a.offline.now a.image.now a.pointers.now a.w a.at.now a.k (ranged a.p q.ground.in_range_holds) k.stripe_in_holds) }
+    let k = q.indexing.0 in record {
+      p_value = q.ground.in_range_holds;
+      at_len =
+          (k.long, stripe_byte a.p a.offline.now a.image.now a.pointers.now a.w a.at.now a.k (ranged a.p q.ground.in_range_holds) k.stripe_in_holds);
+    }
 
 pub returns-then-not-counts : goal.returns-then-not-counts
 returns-then-not-counts c =
@@ -36,7 +40,8 @@ load_stripe-stamp-requires c =
     let counts' = c.counts in
     let k = q.indexing.0 in
     let g : Segment = segment_in a.p a.offline.now a.image.now a.pointers.now a.w in
-    let e : counts a.p a.w.gone g (a.w.base + a.k) ≡ true = sym (counts'.ensures g a.w.base k.reads.indexed k.stripe_in_holds) ∙ not-false counts'.result if1.false-raw in record { ground = q.ground; gathered = q.gathered; standing = record { index = k; it_counts = e }; known = q.known }
+    let e : counts a.p a.w.gone g (a.w.base + a.k) ≡ true = sym (counts'.ensures g a.w.base k.reads.indexed k.stripe_in_holds)
+    ∙ not-false counts'.result if1.false-raw in record { ground = q.ground; gathered = q.gathered; standing = record { index = k; it_counts = e }; known = q.known }
 
 pub overflow_add-result : goal.overflow_add-result
 overflow_add-result c =

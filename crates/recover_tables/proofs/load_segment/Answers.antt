@@ -21,8 +21,11 @@ returns-then-not-kept c =
     let a = c.args in
     let q = c.requires in
     let v : View = view_of a.p a.offline.now a.image.now a.pointers.now in
-    let e : a.kept ≡ false = not-true a.kept c.if-not-kept.true-raw in record { toured_2 = toured_miss a.p v a.gone q.ground.here a.z a.compact.now a.addresses.now a.h.stamp.0 q.toured.0 (sym q.z_lt_z.1 ∙ e); next_value = sym (cond_false (a.kept && eqb a.z a.opened) (length (counted a.p a.gone (segment_of a.p v a.gone (seg_at a.p v a.gone a.z)))) a.h.next
-          (and_false_left a.kept (eqb a.z a.opened) e)) }
+    let e : a.kept ≡ false = not-true a.kept c.if-not-kept.true-raw in record {
+      toured_2 = toured_miss a.p v a.gone q.ground.here a.z a.compact.now a.addresses.now a.h.stamp.0 q.toured.0 (sym q.z_lt_z.1 ∙ e);
+      next_value = sym (cond_false (a.kept && eqb a.z a.opened) (length (counted a.p a.gone (segment_of a.p v a.gone (seg_at a.p v a.gone a.z)))) a.h.next
+          (and_false_left a.kept (eqb a.z a.opened) e));
+    }
 
 pub row-segment-requires : goal.row-segment-requires
 row-segment-requires c =
@@ -37,10 +40,14 @@ rows-requires c =
     let q = c.requires in
     let v : View = view_of a.p a.offline.now a.image.now a.pointers.now in
     let e : remains_at a.p v a.gone a.z ≡ true = sym q.z_lt_z.1 ∙ not-false a.kept c.if-not-kept.false-raw in
-    let w = c.row-segment in record { p_value = q.ground.in_range_holds; whole = q.ground.whole; compact_len = (
-          q.ground.compact_long,
-          head_row_low a.p v a.gone q.ground.here a.rows.now a.serials.now a.owners.now q.gathered a.z q.z_lt_z.0 e w.result w.ensures,
-        ) }
+    let w = c.row-segment in record {
+      p_value = q.ground.in_range_holds;
+      whole = q.ground.whole;
+      compact_len = (
+        q.ground.compact_long,
+        head_row_low a.p v a.gone q.ground.here a.rows.now a.serials.now a.owners.now q.gathered a.z q.z_lt_z.0 e w.result w.ensures,
+      );
+    }
 
 pub offset_bounds-serials-z : goal.offset_bounds-serials-z
 offset_bounds-serials-z c =
@@ -64,18 +71,23 @@ load_groups-t-requires c =
     let g = w.result in
     let e : remains_at a.p v a.gone a.z ≡ true = sym q.z_lt_z.1 ∙ not-false a.kept c.if-not-kept.false-raw in
     let co = x.new.compact in
-    let sh = x.ensures.by_index a.offline.now in record { ground = record {
+    let sh = x.ensures.by_index a.offline.now in record {
+      ground = record {
         in_range_holds = q.ground.in_range_holds;
         whole = q.ground.whole;
         here = q.ground.here;
         apart = q.ground.apart;
         clean = q.ground.clean;
         compact_long = x.auto.compact ∙ q.ground.compact_long;
-      }; gathered = (q.gathered, head_row_serial a.p v a.gone q.ground.here a.rows.now a.serials.now a.owners.now q.gathered a.z q.z_lt_z.0 e g w.ensures); fact = (row_remains a.p v a.gone q.ground.here a.rows.now a.serials.now a.owners.now q.gathered a.z q.z_lt_z.0 e g w.ensures, sh); known = (
-            row_told a.p v a.gone q.ground.here a.rows.now a.serials.now a.owners.now q.gathered a.z q.z_lt_z.0 e g w.ensures a.compact.now co
-                a.addresses.now a.h.stamp.0 q.toured.0 sh x.ensures.fact,
-            q.toured.1,
-          ) }
+      };
+      gathered = (q.gathered, head_row_serial a.p v a.gone q.ground.here a.rows.now a.serials.now a.owners.now q.gathered a.z q.z_lt_z.0 e g w.ensures);
+      fact = (row_remains a.p v a.gone q.ground.here a.rows.now a.serials.now a.owners.now q.gathered a.z q.z_lt_z.0 e g w.ensures, sh);
+      known = (
+        row_told a.p v a.gone q.ground.here a.rows.now a.serials.now a.owners.now q.gathered a.z q.z_lt_z.0 e g w.ensures a.compact.now co
+            a.addresses.now a.h.stamp.0 q.toured.0 sh x.ensures.fact,
+        q.toured.1,
+      );
+    }
 
 pub shape_of-addresses-then-z-opened : goal.shape_of-addresses-then-z-opened
 shape_of-addresses-then-z-opened c = c.load_groups-t.auto.addresses
@@ -98,7 +110,8 @@ returns-then-z-opened c =
     let n = length (counted a.p a.gone (segment_of a.p v a.gone (seg_at a.p v a.gone a.z))) in
     let t = row_toured a.p v a.gone q.ground.here a.rows.now a.serials.now a.owners.now q.gathered a.z q.z_lt_z.0 (sym q.z_lt_z.1 ∙ k) w.result w.ensures
     a.compact.now x.new.compact a.addresses.now a.h.stamp.0 q.toured.0 (x.ensures.by_index a.offline.now) x.ensures.fact x.auto.compact
-    r.new.addresses r.result.stamp.0 r.result.counted r.ensures in record { toured_2 = t.0; next_value = t.1 ∙ sym (cond_true (a.kept && eqb a.z a.opened) n a.h.next (and_both a.kept (eqb a.z a.opened) k (eq-eqb a.z a.opened c.if-z-opened.true))) }
+    r.new.addresses r.result.stamp.0 r.result.counted r.ensures in
+    record { toured_2 = t.0; next_value = t.1 ∙ sym (cond_true (a.kept && eqb a.z a.opened) n a.h.next (and_both a.kept (eqb a.z a.opened) k (eq-eqb a.z a.opened c.if-z-opened.true))) }
 
 pub shape_of-addresses : goal.shape_of-addresses
 shape_of-addresses c = c.load_groups-t.auto.addresses
@@ -121,4 +134,5 @@ returns c =
     let n = length (counted a.p a.gone (segment_of a.p v a.gone (seg_at a.p v a.gone a.z))) in
     let t = row_toured a.p v a.gone q.ground.here a.rows.now a.serials.now a.owners.now q.gathered a.z q.z_lt_z.0 (sym q.z_lt_z.1 ∙ k) w.result w.ensures
     a.compact.now x.new.compact a.addresses.now a.h.stamp.0 q.toured.0 (x.ensures.by_index a.offline.now) x.ensures.fact x.auto.compact
-    r.new.addresses r.result.stamp.0 r.result.counted r.ensures in record { toured_2 = t.0; next_value = sym (cond_false (a.kept && eqb a.z a.opened) n a.h.next (and_false_right a.kept (eqb a.z a.opened) (ne_eqb a.z a.opened c.if-z-opened.false))) }
+    r.new.addresses r.result.stamp.0 r.result.counted r.ensures in
+    record { toured_2 = t.0; next_value = sym (cond_false (a.kept && eqb a.z a.opened) n a.h.next (and_false_right a.kept (eqb a.z a.opened) (ne_eqb a.z a.opened c.if-z-opened.false))) }

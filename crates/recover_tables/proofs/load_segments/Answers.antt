@@ -38,14 +38,19 @@ load_segment-h-requires c =
     let a = c.args in
     let q = c.requires in
     let l = c.loop-z in
-    let i = c.loop-z-test.true in record { ground = record {
+    let i = c.loop-z-test.true in record {
+      ground = record {
         in_range_holds = q.ground.in_range_holds;
         whole = q.ground.whole;
         here = q.ground.here;
         apart = q.ground.apart;
         clean = q.ground.clean;
         compact_long = l.invariant.2 ∙ q.ground.compact_long;
-      }; gathered = q.gathered; z_lt_z = (i, q.keeps.1 l.z i); toured = (l.invariant.4, l.invariant.3 ∙ q.addresses_value.2) }
+      };
+      gathered = q.gathered;
+      z_lt_z = (i, q.keeps.1 l.z i);
+      toured = (l.invariant.4, l.invariant.3 ∙ q.addresses_value.2);
+    }
 
 pub overflow_add-z : goal.overflow_add-z
 overflow_add-z c = omega arith
@@ -95,4 +100,9 @@ returns c =
     let a = c.args in
     let l = c.loop-z in
     let v : View = view_of a.p a.offline.now a.image.now a.pointers.now in
-    let e : l.z ≡ a.p.Z = omega (arith, c.loop-z-test.false, l.invariant.0) in record { toured = subst (λ (n : ℕ). Toured a.p v a.gone n l.compact l.addresses l.h.stamp.0) e l.invariant.4; next_le_s = (l.invariant.5, λ x y. l.invariant.6 (subst (λ (n : ℕ). a.opened < n) (sym e) x) y) }
+    let e : l.z ≡ a.p.Z = omega (arith, c.loop-z-test.false, l.invariant.0) in
+    record {
+      toured = subst (λ (n : ℕ). Toured a.p v a.gone n l.compact l.addresses l.h.stamp.0) e l.invariant.4;
+      next_le_s =
+          (l.invariant.5, λ x y. l.invariant.6 (subst (λ (n : ℕ). a.opened < n) (sym e) x) y);
+    }

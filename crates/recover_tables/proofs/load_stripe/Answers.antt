@@ -57,15 +57,19 @@ cand_of-c-requires c =
     let a = c.args in
     let q = c.requires in
     let st = q.standing in
-    let v : View = view_of a.p a.offline.now a.image.now a.pointers.now in record { p_value = q.ground.in_range_holds; image_len = (
-          q.ground.whole.image_long,
-          st.index.long,
-          standing_low a.p a.offline.now a.image.now a.pointers.now a.w a.at.now a.k q.ground.here a.compact.now st,
-          st.index.base_low,
-          c.data_drive-drive.ensures.1,
-          st.index.stripe_in_holds,
-          seg-low a.p v a.w.gone q.ground.here q.ground.apart a.w.seg st.index.remains c.data_drive-drive.result c.data_drive-drive.ensures.1,
-        ); reads_stripe = (a.offline.now, a.pointers.now, st.index.reads, st.it_counts) }
+    let v : View = view_of a.p a.offline.now a.image.now a.pointers.now in record {
+      p_value = q.ground.in_range_holds;
+      image_len = (
+        q.ground.whole.image_long,
+        st.index.long,
+        standing_low a.p a.offline.now a.image.now a.pointers.now a.w a.at.now a.k q.ground.here a.compact.now st,
+        st.index.base_low,
+        c.data_drive-drive.ensures.1,
+        st.index.stripe_in_holds,
+        seg-low a.p v a.w.gone q.ground.here q.ground.apart a.w.seg st.index.remains c.data_drive-drive.result c.data_drive-drive.ensures.1,
+      );
+      reads_stripe = (a.offline.now, a.pointers.now, st.index.reads, st.it_counts);
+    }
 
 pub offer-requires : goal.offer-requires
 offer-requires c =
@@ -82,9 +86,14 @@ offer-requires c =
     let g : Segment = segment_in a.p a.offline.now a.image.now a.pointers.now a.w in
     let es = q.gathered.1 in
     let ec : ranked cand-of.result ≡ cand_of a.p a.w.gone g s (data_drive a.p s l.i) =
-    cand-of.ensures a.offline.now a.pointers.now st.index.reads es ∙ ap (cand_of a.p a.w.gone g s) data-drive.ensures.0 in record { ground = q.ground; gathered = q.gathered.0; near = cand_there a.p v a.w.gone a.compact.now a.w.seg s l.i (ranked cand-of.result)
-              (standing_counted a.p a.offline.now a.image.now a.pointers.now a.w a.at.now a.k a.compact.now st)
-              (subst (λ (x : ℕ). l.i < x) data-count.ensures.0 loop-test.true) ec; known = tells_known a.p v a.w.gone a.compact.now a.addresses.now l.addresses (first_cands a.p a.w.gone g s l.i) l.invariant.2 q.known }
+    cand-of.ensures a.offline.now a.pointers.now st.index.reads es ∙ ap (cand_of a.p a.w.gone g s) data-drive.ensures.0 in record {
+      ground = q.ground;
+      gathered = q.gathered.0;
+      near = cand_there a.p v a.w.gone a.compact.now a.w.seg s l.i (ranked cand-of.result)
+          (standing_counted a.p a.offline.now a.image.now a.pointers.now a.w a.at.now a.k a.compact.now st)
+          (subst (λ (x : ℕ). l.i < x) data-count.ensures.0 loop-test.true) ec;
+      known = tells_known a.p v a.w.gone a.compact.now a.addresses.now l.addresses (first_cands a.p a.w.gone g s l.i) l.invariant.2 q.known;
+    }
 
 pub overflow_add-i : goal.overflow_add-i
 overflow_add-i c = omega arith
@@ -124,4 +133,8 @@ returns c =
     let g : Segment = segment_in a.p a.offline.now a.image.now a.pointers.now a.w in
     let s = a.w.base + a.k in
     let e : l.i ≡ data_count a.p = omega (arith, c.loop-i-test.false, c.data_count-n.ensures.0, l.invariant.0) in
-    let f : first_cands a.p a.w.gone g s l.i ≡ stripe_cands a.p a.w.gone g s = ap (first_cands a.p a.w.gone g s) e ∙ first_all a.p a.w.gone g s in record { tells = subst (λ (x : List Cand). Tells a.p v a.w.gone a.compact.now a.addresses.now l.addresses x) f l.invariant.2; result_value = l.invariant.3 ∙ ap (λ (x : List Cand). max a.stamp.0 (greatest_stamp x)) f }
+    let f : first_cands a.p a.w.gone g s l.i ≡ stripe_cands a.p a.w.gone g s = ap (first_cands a.p a.w.gone g s) e
+    ∙ first_all a.p a.w.gone g s in record {
+      tells = subst (λ (x : List Cand). Tells a.p v a.w.gone a.compact.now a.addresses.now l.addresses x) f l.invariant.2;
+      result_value = l.invariant.3 ∙ ap (λ (x : List Cand). max a.stamp.0 (greatest_stamp x)) f;
+    }

@@ -22,7 +22,8 @@ use Rattle.recover_tables.proofs.load_stripe.Given as goal
 abbrev pub invariant-loop-i : goal.invariant-loop-i
 invariant-loop-i l =
     (l.i ≤ l.n) × (length l.addresses ≡ length l.initial.addresses)
-    × Tells l.p (view_of l.p l.offline l.image l.pointers) l.w.gone l.compact l.initial.addresses l.addresses (first_cands l.p l.w.gone (segment_in l.p l.offline l.image l.pointers l.w) (l.w.base + l.k) l.i)
+    × Tells l.p (view_of l.p l.offline l.image l.pointers) l.w.gone l.compact l.initial.addresses l.addresses
+    (first_cands l.p l.w.gone (segment_in l.p l.offline l.image l.pointers l.w) (l.w.base + l.k) l.i)
     × (l.most.0 ≡ max l.initial.most.0 (greatest_stamp (first_cands l.p l.w.gone (segment_in l.p l.offline l.image l.pointers l.w) (l.w.base + l.k) l.i)))
 
 abbrev pub decreases-loop-i : goal.decreases-loop-i

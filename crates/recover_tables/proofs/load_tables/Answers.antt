@@ -17,7 +17,12 @@ find_owners-requires c =
     let a = c.args in
     let q = c.requires in
     let v : View = view_of a.p a.offline.now a.image.now a.pointers.now in
-    let l = q.loading in record { p_value = q.p_value; z_in_bounds = (l.rows_are.0, l.kept_are.0, q.whole.1, rows-all-low a.p v a.gone l.here l.apart a.rows.now a.kept.now l.rows_are l.kept_are); by_index = q.whole.2 }
+    let l = q.loading in record {
+      p_value = q.p_value;
+      z_in_bounds =
+          (l.rows_are.0, l.kept_are.0, q.whole.1, rows-all-low a.p v a.gone l.here l.apart a.rows.now a.kept.now l.rows_are l.kept_are);
+      by_index = q.whole.2;
+    }
 
 pub slice_bounds-load_segments-end : goal.slice_bounds-load_segments-end
 slice_bounds-load_segments-end c = omega arith
@@ -31,23 +36,28 @@ load_segments-requires c =
     let f = c.find_owners in
     let owned = owners_told a.p v a.gone l.here l.apart a.rows.now a.kept.now l.rows_are l.kept_are f.new.owners
     (omega (arith, f.auto.owners, q.whole.1)) f.ensures in
-    let e = c.clear.ensures ∙ ap (λ (n : ℕ). replicate {A = ℕ} n 0) q.addresses_len.1 in record { ground = record {
+    let e = c.clear.ensures ∙ ap (λ (n : ℕ). replicate {A = ℕ} n 0) q.addresses_len.1 in record {
+      ground = record {
         in_range_holds = q.p_value;
         whole = q.whole.0;
         here = l.here;
         apart = l.apart;
         clean = l.clean;
         compact_long = c.clear.auto.dst ∙ q.addresses_len.1;
-      }; gathered = record {
-          rows_are = l.rows_are;
-          serials_are = l.serials_are;
-          owners_are = owned;
-        }; keeps = l.kept_are; addresses_value = (
-            c.clear_table.ensures ∙ ap
-                (λ (n : ℕ). replicate {A = ℕ} n 255) q.addresses_len.0,
-            e,
-            refl,
-          ) }
+      };
+      gathered = record {
+        rows_are = l.rows_are;
+        serials_are = l.serials_are;
+        owners_are = owned;
+      };
+      keeps = l.kept_are;
+      addresses_value = (
+        c.clear_table.ensures ∙ ap
+            (λ (n : ℕ). replicate {A = ℕ} n 255) q.addresses_len.0,
+        e,
+        refl,
+      );
+    }
 
 pub returns : goal.returns
 returns c =
