@@ -248,10 +248,10 @@ module _ (p : Params) (v : View) (d r : ℕ) where
             ap (λ (l : List ℕ). leb 2 (length (n ∷ l))) (nearest_none (bears_at p v d r) p.Z (n + 1) m y (omega arith)) ∙ sym (le-ltb m p.Z (omega arith))
 
 -- behind the lowest that bears a serial, the next of its bucket
-pub next_of : (p : Params) (v : View) (mask d r : ℕ) (hs ls : List ℕ) → Chained p v mask d 0 hs ls → (z : ℕ) → z < p.Z → Nearest (bears_at p v d r) p.Z 0 z
+pub next_of_lem : (p : Params) (v : View) (mask d r : ℕ) (hs ls : List ℕ) → Chained p v mask d 0 hs ls → (z : ℕ) → z < p.Z → Nearest (bears_at p v d r) p.Z 0 z
     → Nearest (in_bucket p v mask d (bit_and r mask)) p.Z (z + 1) (z + 1 + get_or ls (mask + 1 + z) 0)
 unfolding bears_at
-next_of p v mask d r hs ls x z h n =
+next_of_lem p v mask d r hs ls x z h n =
     subst (λ (k : ℕ). Nearest (in_bucket p v mask d (bit_and k mask)) p.Z (z + 1) (z + 1 + get_or ls (mask + 1 + z) 0))
     (eqb-true (serial_in p v d z) r (and_right (is_used p v d z) (eqb (serial_in p v d z) r) (n.hits h)))
     (x.nexts z (omega arith) h (and_left (is_used p v d z) (eqb (serial_in p v d z) r) (n.hits h)))

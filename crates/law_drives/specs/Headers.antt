@@ -69,13 +69,13 @@ empty_some p v d h =
     least_in p.Z (map (λ d. length (empty_zones p v d)) (below p.N)) (length (empty_zones p v d)) (in_map (λ d. length (empty_zones p v d)) (below p.N) d (in_below p.N d h))
 
 -- what the lists of empty and of good zones keep
-empty_kept : (p : Params) (v : View) (d z : ℕ) → In z (empty_zones p v d) → In z (keep (λ z. eqb (pointer_at v d z) 0) (good_zones p v.offline d))
+empty_zones_kept : (p : Params) (v : View) (d z : ℕ) → In z (empty_zones p v d) → In z (keep (λ z. eqb (pointer_at v d z) 0) (good_zones p v.offline d))
 unfolding empty_zones
-empty_kept p v d z m = m
+empty_zones_kept p v d z m = m
 
-good_kept : (p : Params) (v : View) (d z : ℕ) → In z (good_zones p v.offline d) → In z (keep (is_good p v.offline d) (below p.Z))
+good_zones_kept : (p : Params) (v : View) (d z : ℕ) → In z (good_zones p v.offline d) → In z (keep (is_good p v.offline d) (below p.Z))
 unfolding good_zones
-good_kept p v d z m = m
+good_zones_kept p v d z m = m
 
 -- the lowest empty zone of each drive
 pub new_vacant : (p : Params) (v : View) → 1 ≤ empty_count p v → Vacant p v (new_seg p v)
@@ -90,8 +90,8 @@ new_vacant p v h = with_vacant p v (λ d. first_or 0 (empty_zones p v d)) (λ d 
         → (first_or 0 (empty_zones p v d) < p.Z) × (is_good p v.offline d (first_or 0 (empty_zones p v d)) ≡ true) × (pointer_at v d (first_or 0 (empty_zones p v d)) ≡ 0)
     of d m =
         let z = first_or 0 (empty_zones p v d) in
-        let e = keep_in (λ z. eqb (pointer_at v d z) 0) (good_zones p v.offline d) z (empty_kept p v d z m) in
-        let g = keep_in (is_good p v.offline d) (below p.Z) z (good_kept p v d z e.0) in
+        let e = keep_in (λ z. eqb (pointer_at v d z) 0) (good_zones p v.offline d) z (empty_zones_kept p v d z m) in
+        let g = keep_in (is_good p v.offline d) (below p.Z) z (good_zones_kept p v d z e.0) in
         (below_in p.Z z g.0, g.1, eqb-true (pointer_at v d z) 0 e.1)
 
 -- an empty zone isn't used

@@ -27,11 +27,11 @@ pub bytes_part : (a n : ℕ) (l : List ℕ) → Bytes l → Bytes (part a n l)
 unfolding part
 bytes_part a n l h = bytes_take n (drop a l) (bytes_drop a l h)
 
-pub bytes_of : (l : List ℕ) → are_bytes l ≡ true → Bytes l
+pub bytes_of_lem : (l : List ℕ) → are_bytes l ≡ true → Bytes l
 unfolding are_bytes all
-bytes_of [] q i = omega arith
-bytes_of (b ∷ l) q zero = ltb-true b 256 (and_left (ltb b 256) (all (λ x. ltb x 256) l) q)
-bytes_of (b ∷ l) q (suc i) = bytes_of l (and_right (ltb b 256) (all (λ x. ltb x 256) l) q) i
+bytes_of_lem [] q i = omega arith
+bytes_of_lem (b ∷ l) q zero = ltb-true b 256 (and_left (ltb b 256) (all (λ x. ltb x 256) l) q)
+bytes_of_lem (b ∷ l) q (suc i) = bytes_of_lem l (and_right (ltb b 256) (all (λ x. ltb x 256) l) q) i
 
 pub sized_of : (p : Params) (off : List ℕ) (k : Disk) → Whole p k → Sized p (seen p off k)
 unfolding view_of zones_of drive_of

@@ -162,16 +162,16 @@ part_front : (s t : List ℕ) (n : ℕ) → length s ≡ n → part 0 n (s ++ t)
 unfolding part
 part_front s t n e = take_at s t n e
 
-row_of : (k : ℕ) (t : List (List ℕ)) (j : ℕ) (u : List ℕ) → Long k t → j < length t → part (k * j) k (flat (λ (b : List ℕ). b) t ++ u) ≡ get_or t j []
+row_of_lem : (k : ℕ) (t : List (List ℕ)) (j : ℕ) (u : List ℕ) → Long k t → j < length t → part (k * j) k (flat (λ (b : List ℕ). b) t ++ u) ≡ get_or t j []
 unfolding flat
-row_of k [] j u h l = absurd (let z : ⊥ = omega arith in z)
-row_of k (s ∷ t) zero u h l =
+row_of_lem k [] j u h l = absurd (let z : ⊥ = omega arith in z)
+row_of_lem k (s ∷ t) zero u h l =
     ap (λ (x : ℕ). part x k (s ++ flat (λ (b : List ℕ). b) t ++ u)) (let e : k * 0 ≡ 0 = omega arith in e)
     ∙ ap (part 0 k) (append_assoc s (flat (λ (b : List ℕ). b) t) u) ∙ part_front s (flat (λ (b : List ℕ). b) t ++ u) k (h s (inl refl))
-row_of k (s ∷ t) (suc j) u h l =
+row_of_lem k (s ∷ t) (suc j) u h l =
     ap (λ (x : ℕ). part x k (s ++ flat (λ (b : List ℕ). b) t ++ u)) (let e : k * suc j ≡ length s + k * j = mul-suc k j ∙ (let q : length s ≡ k = h s (inl refl) in omega arith) in e)
     ∙ ap (part (length s + k * j) k) (append_assoc s (flat (λ (b : List ℕ). b) t) u) ∙ part-append_right (k * j) k s (flat (λ (b : List ℕ). b) t ++ u)
-    ∙ row_of k t j u (λ x m. h x (inr m)) (omega arith)
+    ∙ row_of_lem k t j u (λ x m. h x (inr m)) (omega arith)
 
 pub get_d_footer : (p : Params) → Ranged p → (ss : List (List ℕ)) (o : ℕ) → Long spare_len ss → o < length ss
     → part (spare_len * (o % per_footer p)) spare_len (footer_block p ss (o / per_footer p)) ≡ get_or ss o []
@@ -187,5 +187,5 @@ get_d_footer p r ss o h l =
     let pad : List ℕ = replicate (p.B - length (flat (λ (b : List ℕ). b) t)) 0 in
     let ld : j < length d = subst (λ (x : ℕ). j < x) (sym (length-drop (i * k) ss)) (omega arith) in
     let lt : j < length t = subst (λ (x : ℕ). j < x) (sym (length-take k d)) (omega arith) in
-    row_of spare_len t j pad (λ s m. h s (in_drop (i * k) ss s (in_take k d s m))) lt
+    row_of_lem spare_len t j pad (λ s m. h s (in_drop (i * k) ss s (in_take k d s m))) lt
     ∙ get_or-take k d j [] jk ∙ get_or-drop (i * k) ss j [] ∙ ap (λ (x : ℕ). get_or ss x []) e

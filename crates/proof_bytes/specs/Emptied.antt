@@ -37,7 +37,7 @@ use Rattle.law_checks.specs.Checks.Decided.{stops, goes}
 use Rattle.law_checks.specs.Empty.{empty_closes, far_refusal, idle_refusal, Emptied, empty_decided}
 use Rattle.law_checks.specs.Empty.Emptied.{as_closing, as_refused, as_nothing}
 use Rattle.law_checks.specs.Passed.{EmptyPassed, list_parts}
-use Rattle.law_drives.specs.Image.{bytes_of}
+use Rattle.law_drives.specs.Image.{bytes_of_lem}
 use Rattle.law_drives.specs.Tests.{clash}
 use Rattle.law_views.specs.Views.{seen}
 use Rattle.spec_demands.specs.EmptyWrites.{state_in, writable, empty_left, EmptyWritten, EmptyWrite}
@@ -143,7 +143,7 @@ module _ (p : Params) (l : Lent) (a n : ℕ) where
   back b h =
       let e = eqb-true (length l.state) state_len (and_right (lent_ok_of p l.offline disk memory) (eqb (length l.state) state_len) h) in
       ap (λ (s : List ℕ). record { offline = l.offline; image = l.image; pointers = l.pointers; addresses = l.addresses; compact = l.compact; inflight = l.inflight; state = s })
-      (state_bytes_state_of l.state e (λ k _. bytes_of l.state b k))
+      (state_bytes_state_of l.state e (λ k _. bytes_of_lem l.state b k))
 
   is_idle : has_filling p (state_in l) ≡ false → are_bytes l.state ≡ true
       → ((empty_left p l a n).lent ≡ l) × (((empty_left p l a n).answer ≡ Nothing) ⊎ (is_refused (empty_left p l a n).answer ≡ true))
@@ -226,7 +226,7 @@ module _ (p : Params) (l : Lent) (a n : ℕ) where
           ap (λ (x : State). x.stamp) (state_of_state_bytes st (state_sections_counted st f) (fitting st f)) ∙ padding)
         where
           fits : StateFits memory.state
-          fits = unfold lent_memory in fits_state_of l.state (bytes_of l.state b)
+          fits = unfold lent_memory in fits_state_of l.state (bytes_of_lem l.state b)
 
           padding : (close_plan p memory).memory.state.stamp ≡ (state_of l.state).stamp
           padding = unfold close_plan lent_memory in padded_stamp p _ _ (state_of l.state) l.inflight

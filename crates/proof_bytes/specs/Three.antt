@@ -35,7 +35,7 @@ use Rattle.spec_demands.specs.Histories.{LentEvent, lent_call, with_disk, lent_i
 use Rattle.spec_demands.specs.Histories.{LentHist, lent_marked, lent_step, lent_began}
 use Rattle.spec_demands.specs.Histories.{lent_bytes, event_bytes, lent_allowed, LentAllowed, LentSame, LentClaim, LentClaims, Demand3}
 use Rattle.spec_demands.specs.Histories.LentEvent.{calls, boots}
-use Rattle.law_drives.specs.Image.{bytes_of}
+use Rattle.law_drives.specs.Image.{bytes_of_lem}
 use Rattle.law_drives.specs.Laid.{bytes_nil, bytes_zeros}
 use Rattle.law_drives.specs.Tests.{cond_true, cond_false}
 use Rattle.law_drives.specs.Zones.{Bytes}
@@ -155,7 +155,7 @@ boot_bytes d n u im ps q =
     let e = and_left (a && b && c && are_bytes im) (are_bytes ps) q in
     let f = and_left (a && b && c) (are_bytes im) e in
     let g = and_left (a && b) c f in
-    (bytes_of u.inflight (and_right a b g), bytes_of u.state (and_right (a && b) c f), bytes_of im (and_right (a && b && c) (are_bytes im) e))
+    (bytes_of_lem u.inflight (and_right a b g), bytes_of_lem u.state (and_right (a && b) c f), bytes_of_lem im (and_right (a && b && c) (are_bytes im) e))
 
 good_with : (off o : List ℕ) → o ≡ off → (u : Lent) (k : Disk) → length u.state ≡ state_len → Bytes k.image → Bytes u.inflight → Bytes u.state
     → GoodBytes off (with_disk o u k)
@@ -193,7 +193,7 @@ module _ (p : Params) (off : List ℕ) (l : Lent) (g : GoodBytes off l) where
 
   block_bytes : (e : LentEvent) → event_bytes e ≡ true → Bytes (lent_block (lent_call e))
   unfolding event_bytes lent_call
-  block_bytes (calls c) q = bytes_of (lent_block c) q
+  block_bytes (calls c) q = bytes_of_lem (lent_block c) q
   block_bytes (boots d n u im ps) q = unfold lent_block in bytes_nil
 
   module _ (e : LentEvent) (e' : Event) (s : SameEvent e e') (q : event_bytes e ≡ true) where
@@ -484,7 +484,7 @@ began_good p off k h = record {
 -- demand 3, of the lent bytes
 pub demand_3_bytes : Demand3
 demand_3_bytes p off r k em by es al =
-    let g = began_good p off k (bytes_of k.image by) in
+    let g = began_good p off k (bytes_of_lem k.image by) in
     lent_claims p off es (lent_began p off k) g al
     (subst (λ (h : Hist). Claims p off h (events_of es)) (sym (began_same p off k))
     (demand_3 p off r k em (events_of es) (subst (λ (h : Hist). Allowed p off h (events_of es)) (began_same p off k) (all-allowed p off es (lent_began p off k) g al))))

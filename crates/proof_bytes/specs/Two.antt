@@ -23,7 +23,7 @@ use Rattle.law_lent.specs.Hosts.{bytes_short}
 use Rattle.law_lent.specs.Shorts.{short_answer, short_refused, restart_short}
 use Rattle.spec_demands.specs.Engines.{Reply, on_values, on_bytes, call_world, call_lent, view_in, reads_as}
 use Rattle.spec_demands.specs.Tables.{Pending, pending_after, found_after, Says, open_in, landing_stores, Lands, Restarts, Rebuilds, CallSays, SaysOn, AfterRestart}
-use Rattle.law_drives.specs.Image.{bytes_of, shaped_of}
+use Rattle.law_drives.specs.Image.{bytes_of_lem, shaped_of}
 use Rattle.law_drives.specs.Tests.{clash}
 use Rattle.law_drives.specs.Zones.{Shaped}
 use Rattle.proof_tables.specs.Run.{Run}
@@ -211,7 +211,7 @@ lift_2 two p l d n cs by q = go (ℕ_discrete (length l.state) state_len)
     )
       where
         shaped! : Whole p (lent_disk l) → Shaped p (seen p l.offline (lent_disk l))
-        shaped! w = shaped_of p l.offline (lent_disk l) w (bytes_of (lent_disk l).image by)
+        shaped! w = shaped_of p l.offline (lent_disk l) w (bytes_of_lem (lent_disk l).image by)
 
         fin : finished (call_disk p l.offline (lent_disk l) (lent_memory l) c).answer ≡ true
         fin = ap finished (sym (answer! ∙ answer_same p l c h)) ∙ q

@@ -28,7 +28,7 @@ use Rattle.proof_crash_machine.specs.View.Item.{chunk}
 use Rattle.proof_crash_machine.specs.Mask.{Mask}
 use Rattle.law_drives.specs.Spots.{place_holder}
 use Rattle.proof_crash_items.specs.Cands.{best_none, cands_seen, From, cands_from, cand_value, of_counted}
-use Rattle.proof_crash_items.specs.Items.{value_of, chunk_item, chunk_of}
+use Rattle.proof_crash_items.specs.Items.{value_of, chunk_item, chunk_of_lem}
 use Rattle.proof_crash_items.specs.Segs.{OnDrives, SegAt, name_of, remaining_has, remains_at_holds, its_zones, drive_here, apart_there, seg_bytes, seg_pointer_low}
 use Rattle.proof_crash_items.specs.Stripes.{stored-below, record_by_spare, offset_on_holds, stored_piece_holds, counted_has, piece_at, piece_here, counted_stripe, seg_items}
 use Rattle.proof_crash_items.specs.Member.{Has, keep_has, has_keep}
@@ -236,7 +236,7 @@ module _ (p : Params) (h : Ranged p) (off : List ℕ) (g : Ghost) (v : View) (u 
             subst (λ (l : List Item). Off l (suc o) (chunk n
             (value_of (block_in_of (zone_at v from.d its_zone) (suc o)).block (record_of_of (block_in_of (zone_at v from.d its_zone) (suc o)).spare))))
             (sym (seg_items p v u 0 from.z its_name_holds zb from.d from.drv (not_m from.d from.drv)))
-            (unfold chunk_item in chunk_of p (zone_at v from.d its_zone) (seg_pointer_low p h off g v u k 0 choice_none from.z zb from.d from.drv (not_m from.d from.drv)) o o_low.0
+            (unfold chunk_item in chunk_of_lem p (zone_at v from.d its_zone) (seg_pointer_low p h off g v u k 0 choice_none from.z zb from.d from.drv (not_m from.d from.drv)) o o_low.0
             o_low.1)
 
   -- ---- the best of an address

@@ -125,8 +125,8 @@ module _ (p : Params) (q : Zone) (low : q.pointer ≤ length q.blocks) where
           (k, refl, l, b, chunk_num e', chunk_val e')
       go (no l) (b, e) = absurd (chunk_foot (sym e ∙ item_foot p k (get_or q.blocks (suc k) no_chunk) (omega arith)))
 
-  pub chunk_of : (o : ℕ) → o < p.S → suc o < q.pointer → Off (items_of p q) (suc o) (chunk_item (get_or q.blocks (suc o) no_chunk))
-  chunk_of o l b = off_of (suc o) (chunk_item (get_or q.blocks (suc o) no_chunk)) b (item_data p o (get_or q.blocks (suc o) no_chunk) l)
+  pub chunk_of_lem : (o : ℕ) → o < p.S → suc o < q.pointer → Off (items_of p q) (suc o) (chunk_item (get_or q.blocks (suc o) no_chunk))
+  chunk_of_lem o l b = off_of (suc o) (chunk_item (get_or q.blocks (suc o) no_chunk)) b (item_data p o (get_or q.blocks (suc o) no_chunk) l)
 
 -- ---- a store on the zone
 

@@ -36,7 +36,7 @@ use Rattle.proof_crash_machine.specs.Put.{off_in}
 use Rattle.proof_crash_machine.specs.Val.{Val, pads}
 use Rattle.proof_crash_machine.specs.View.{Item, ItemView}
 use Rattle.proof_crash_machine.specs.View.Item.{chunk}
-use Rattle.proof_crash_items.specs.Items.{value_of, chunk_item, chunk_of}
+use Rattle.proof_crash_items.specs.Items.{value_of, chunk_item, chunk_of_lem}
 use Rattle.proof_crash_items.specs.Member.{Has, or_both_false, and_false_1, keep_has, has_keep, keep-nil, up_from_has, below_has, none_any, map_has, has_map, has_get_d, is_nil_has, has_below}
 use Rattle.proof_crash_items.specs.Named.{has_absent, none_present}
 use Rattle.proof_crash_items.specs.Ranges.{par_of, data_code}
@@ -287,7 +287,7 @@ module _ (p : Params) (r : Ranged p) (off : List ℕ) (g : Ghost) (v : View) (u 
         let s : (o < p.S) × (suc o < (zone_at v d (zone_on z d)).pointer) = stored-below p (zone_at v d (zone_on z d)) o w in
         subst (λ (y : List Item). Off y (suc o) (chunk (record_of_of (block_in_of (zone_at v d (zone_on z d)) (suc o)).spare).stripe
         (value_of (block_in_of (zone_at v d (zone_on z d)) (suc o)).block (record_of_of (block_in_of (zone_at v d (zone_on z d)) (suc o)).spare))))
-        (sym (seg_items p v u m z (name_of p v m z) b d l n)) (unfold chunk_item in chunk_of p (zone_at v d (zone_on z d)) (seg_pointer_low p r off g v u k m c z b d l n) o s.0 s.1)
+        (sym (seg_items p v u m z (name_of p v m z) b d l n)) (unfold chunk_item in chunk_of_lem p (zone_at v d (zone_on z d)) (seg_pointer_low p r off g v u k m c z b d l n) o s.0 s.1)
 
     stripes_fine : stripe_fault p m (G z) ≡ false
     unfolding stripe_fault

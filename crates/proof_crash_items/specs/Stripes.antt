@@ -30,7 +30,7 @@ use Rattle.proof_crash_machine.specs.Facts.{some_present}
 use Rattle.proof_crash_machine.specs.Val.{Val, 𝟘}
 use Rattle.proof_crash_machine.specs.View.{Item, InI, item_some, chunk_hdr, ItemView}
 use Rattle.proof_crash_machine.specs.View.Item.{chunk}
-use Rattle.proof_crash_items.specs.Items.{value_of, chunk_item, items_of, items_in, of_chunk, chunk_of}
+use Rattle.proof_crash_items.specs.Items.{value_of, chunk_item, items_of, items_in, of_chunk, chunk_of_lem}
 use Rattle.proof_crash_items.specs.Member.{Has, keep_has, has_keep, below_has, has_below, has_any, has_map}
 use Rattle.proof_crash_items.specs.Named.{present_has, all-present, all_on_present}
 use Rattle.proof_crash_items.specs.Ranges.{capacity_few, par_of, code_of, code_lost}
@@ -169,7 +169,7 @@ module _ (p : Params) (r : Ranged p) (off : List ℕ) (g : Ghost) (v : View) (u 
       let h : (offset_on (G z) d s < data_stored p (zone_at v d (zone_on z d)))
       × ((record_of_of (block_in_of (zone_at v d (zone_on z d)) (suc (offset_on (G z) d s))).spare).stripe ≡ s) = offset_on_holds z s d b l n e in
       let i : (o < p.S) × (suc o < q.pointer) = stored-below p q o h.0 in
-      let f : Off (items_of p q) (suc o) (chunk_item (block_in_of q (suc o))) = chunk_of p q (seg_pointer_low p r off g v u k m c z b d l n) o i.0 i.1 in
+      let f : Off (items_of p q) (suc o) (chunk_item (block_in_of q (suc o))) = chunk_of_lem p q (seg_pointer_low p r off g v u k m c z b d l n) o i.0 i.1 in
       let x : chunk_item (block_in_of q (suc o)) ≡ chunk s (piece_value (stored_piece (G z) s d)) = named_chunk z s d b l n e in
       subst (λ (y : List Item). InI (chunk s (piece_value (stored_piece (G z) s d))) y) (sym (seg_items p v u m z nm b d l n))
       (subst (λ (y : Item). InI y (items_of p q)) x (off_in (items_of p q) (suc o) (chunk_item (block_in_of q (suc o))) f))

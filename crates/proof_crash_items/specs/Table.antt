@@ -17,7 +17,7 @@ use Rattle.law_drives.specs.Spots.{InGroups, shown_first}
 use Rattle.law_drives.specs.Tables.{length_compact}
 use Rattle.proof_crash_machine.specs.Facts.{Ghost, Choice, Off}
 use Rattle.proof_crash_machine.specs.View.{Item, ItemView}
-use Rattle.proof_crash_items.specs.Items.{value_of, chunk_item, items_of, chunk_of}
+use Rattle.proof_crash_items.specs.Items.{value_of, chunk_item, items_of, chunk_of_lem}
 use Rattle.proof_crash_items.specs.Member.{Has}
 use Rattle.proof_crash_items.specs.Ranges.{par_of}
 use Rattle.proof_crash_items.specs.Segs.{OnDrives, SegAt, name_of, trusted, drive_here, remains_at_holds, seg_pointer_low, zone_facts}
@@ -38,7 +38,7 @@ module _ (p : Params) (r : Ranged p) (off : List ℕ) (g : Ghost) (v : View) (u 
       let b : SegAt p v u m z (name_of p v m z) = remains_at_holds p r off g v u k m c z i in
       let j : (o < p.S) × (suc o < (zone_at v d (zone_on z d)).pointer) = stored-below p (zone_at v d (zone_on z d)) o w in
       let a : Off (items_of p (zone_at v d (zone_on z d))) (suc o) (chunk_item (block_in_of (zone_at v d (zone_on z d)) (suc o))) =
-      chunk_of p (zone_at v d (zone_on z d)) (seg_pointer_low p r off g v u k m c z b d l n) o j.0 j.1 in
+      chunk_of_lem p (zone_at v d (zone_on z d)) (seg_pointer_low p r off g v u k m c z b d l n) o j.0 j.1 in
       let f = (zone_facts p r off g v u k d (name_of p v m z) l (trusted p r off g v u k m c d l n)).num o (record_of_of (block_in_of (zone_at v d (zone_on z d)) (suc o)).spare).stripe
       (value_of (block_in_of (zone_at v d (zone_on z d)) (suc o)).block (record_of_of (block_in_of (zone_at v d (zone_on z d)) (suc o)).spare))
       (unfold chunk_item in subst (λ (y : List Item). Off y (suc o) (chunk_item (block_in_of (zone_at v d (zone_on z d)) (suc o)))) (sym (seg_items p v u m z (name_of p v m z) b d l n)) a) in

@@ -17,7 +17,7 @@ use Rattle.proof_crash_machine.specs.Put.{off_in}
 use Rattle.proof_crash_machine.specs.Val.{Val}
 use Rattle.proof_crash_machine.specs.View.{Item, InI, ItemView}
 use Rattle.proof_crash_machine.specs.View.Item.{chunk}
-use Rattle.proof_crash_items.specs.Items.{value_of, chunk_item, chunk_of}
+use Rattle.proof_crash_items.specs.Items.{value_of, chunk_item, chunk_of_lem}
 use Rattle.proof_crash_items.specs.Member.{Has, get_d_has, has_get_d}
 use Rattle.proof_crash_items.specs.Ranges.{capacity_few, par_of}
 use Rattle.proof_crash_items.specs.Refuse.{Rising, rising-keep, rising-below}
@@ -63,7 +63,7 @@ module _ (p : Params) (r : Ranged p) (off : List ℕ) (g : Ghost) (v : View) (u 
         let j : (o < p.S) × (suc o < (zone_at v d (zone_on z d)).pointer) = stored-below p (zone_at v d (zone_on z d)) o w in
         subst (λ (y : List Item). Off y (suc o) (chunk (record_of_of (block_in_of (zone_at v d (zone_on z d)) (suc o)).spare).stripe
         (value_of (block_in_of (zone_at v d (zone_on z d)) (suc o)).block (record_of_of (block_in_of (zone_at v d (zone_on z d)) (suc o)).spare))))
-        (sym (seg_items p v u m z nm zb d l n)) (unfold chunk_item in chunk_of p (zone_at v d (zone_on z d)) (seg_pointer_low p r off g v u k m c z zb d l n) o j.0 j.1)
+        (sym (seg_items p v u m z nm zb d l n)) (unfold chunk_item in chunk_of_lem p (zone_at v d (zone_on z d)) (seg_pointer_low p r off g v u k m c z zb d l n) o j.0 j.1)
 
     fact :
         (o : ℕ)

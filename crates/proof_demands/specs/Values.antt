@@ -20,7 +20,7 @@ use Rattle.proof_rebuilt.specs.Theorem.{rebuilds_say}
 use Rattle.spec_demands.specs.Engines.{call_world, on_values, view_in, reads_as}
 use Rattle.spec_demands.specs.Layouts.{Layout}
 use Rattle.spec_demands.specs.Tables.{Pending, pending_after, found_after, Says, CallSays, SaysOn, AfterRestart}
-use Rattle.law_drives.specs.Image.{bytes_of, shaped_of}
+use Rattle.law_drives.specs.Image.{bytes_of_lem, shaped_of}
 use Rattle.law_drives.specs.Zones.{Shaped}
 use Rattle.proof_tables.specs.Reading.{run_says}
 use Rattle.proof_tables.specs.Run.{Run}
@@ -118,7 +118,7 @@ unfolding call_world view_in
 after_restart off p w d n cs by q =
     let k = w.disk in
     let m = w.memory in
-    let sh : Whole p k → Shaped p (seen p off k) = λ x. shaped_of p off k x (bytes_of k.image by) in
+    let sh : Whole p k → Shaped p (seen p off k) = λ x. shaped_of p off k x (bytes_of_lem k.image by) in
     let a = call_disk p off k m (restart d n) in (
       restarts_say p off k m d n q,
       says_on p off a.drives a.memory [] (segments p (seen p off k) (named d))

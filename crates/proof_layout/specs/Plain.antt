@@ -193,8 +193,8 @@ module _ (p : Params) (v : View) (gone a : ℕ) where
             ap (λ (n : ℕ). got (piece_of p gone (segment_of p v gone g) n d).block c.stamp) (cond_false (is_in gone d) c.offset (there g) b ∙ s)
             ∙ ap (λ (y : Seg). got (piece_of p gone (segment_of p v gone y) k.stripe d).block c.stamp) (plain_its_seg low)
 
-    block_of : said_block p v gone (some c) ≡ got (piece_of p gone x k.stripe (data_drive p k.stripe k.position)).block c.stamp
-    block_of = block_there ∙ ap (λ (e : ℕ). got (piece_of p gone x k.stripe e).block c.stamp) plain_cand_drive
+    block_of_lem : said_block p v gone (some c) ≡ got (piece_of p gone x k.stripe (data_drive p k.stripe k.position)).block c.stamp
+    block_of_lem = block_there ∙ ap (λ (e : ℕ). got (piece_of p gone x k.stripe e).block c.stamp) plain_cand_drive
 
   said_latest : Latest p v gone a (best none (cands_of a said)) (said_at p v gone a)
   unfolding in_recorded
@@ -211,7 +211,7 @@ module _ (p : Params) (v : View) (gone a : ℕ) where
       go (some c) e =
           let (m, ea) = best_in a said c e in
           let k = cand_at p v gone c m in
-          latest c (in_recorded c k ea) (λ x j. none_beats (cands_of a said) c e x (recorded_in x j)) e (at! (some c) e ∙ block_of c k)
+          latest c (in_recorded c k ea) (λ x j. none_beats (cands_of a said) c e x (recorded_in x j)) e (at! (some c) e ∙ block_of_lem c k)
 
 -- demand 2, in plain terms
 pub said_plain : SaidIsLatest

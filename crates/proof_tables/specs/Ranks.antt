@@ -149,8 +149,8 @@ pub of_at : (a : ℕ) (cs : List Cand) (d : Cand) → OfAddress a cs d → In d 
 unfolding cands_of
 of_at a cs d m = in_keep (λ (c : Cand). eqb c.address a) cs d m.0 (eq-eqb d.address a m.1)
 
-pub top_of : (a : ℕ) (cs : List Cand) → CandsApart cs → TopOf (OfAddress a cs) (best none (cands_of a cs))
-top_of a cs ap! =
+pub top_of_lem : (a : ℕ) (cs : List Cand) → CandsApart cs → TopOf (OfAddress a cs) (best none (cands_of a cs))
+top_of_lem a cs ap! =
     top_same (λ (d : Cand). ⊥ ⊎ In d (cands_of a cs)) (OfAddress a cs) (best none (cands_of a cs))
     (λ d x. ⊎_elim (λ y. absurd y) (λ y. at_of a cs d y) x) (λ d x. inr (of_at a cs d x))
     (best_top (λ (d : Cand). ⊥) none (cands_of a cs)
@@ -177,14 +177,14 @@ same_best a xs ys ap! f g =
     (λ d x. ⊎_elim (λ y. absurd y) (λ y. (f d (at_of a xs d y).1 (at_of a xs d y).0, (at_of a xs d y).1)) x)
     (λ d x. inr (of_at a xs d (g d x.1 x.0, x.1)))
     (best_top (λ (d : Cand). ⊥) none (cands_of a xs) aps (λ d x. x)))
-    (top_of a ys ap!)
+    (top_of_lem a ys ap!)
 
 -- fewer records, the best among them, the same best
 pub fewer-best : (a : ℕ) (xs ys : List Cand) → CandsApart xs → ((d : Cand) → In d ys → In d xs) → ((c : Cand) → best none (cands_of a xs) ≡ some c → In c ys)
     → best none (cands_of a ys) ≡ best none (cands_of a xs)
 fewer-best a xs ys ap! f g =
-    one_top (OfAddress a ys) (best none (cands_of a ys)) (best none (cands_of a xs)) (top_of a ys (λ x y u w k. ap! x y (f x u) (f y w) k))
-    (go (best none (cands_of a xs)) refl (top_of a xs ap!))
+    one_top (OfAddress a ys) (best none (cands_of a ys)) (best none (cands_of a xs)) (top_of_lem a ys (λ x y u w k. ap! x y (f x u) (f y w) k))
+    (go (best none (cands_of a xs)) refl (top_of_lem a xs ap!))
   where
     go : (o : Opt Cand) → best none (cands_of a xs) ≡ o → TopOf (OfAddress a xs) o → TopOf (OfAddress a ys) o
     go none e t = λ d x. t d (f d x.0, x.1)

@@ -156,9 +156,9 @@ module _ (p : Params) (v : View) (gone : ℕ) (g : Seg) (d : ℕ) (l l' l'' : Li
 
 -- ---- the entries of a row
 
-pub entry_of : (p : Params) (w : Bool) (q : Zone) (o s : ℕ) → s ≡ (record_in p w q o).stripe → compact_entry p s ≡ entry_said p w q o
+pub entry_of_lem : (p : Params) (w : Bool) (q : Zone) (o s : ℕ) → s ≡ (record_in p w q o).stripe → compact_entry p s ≡ entry_said p w q o
 unfolding entry_said
-entry_of p w q o s e = ap (compact_entry p) e
+entry_of_lem p w q o s e = ap (compact_entry p) e
 
 pub entries_turn : (p : Params) (w : Bool) (q : Zone) (l l' : List ℕ) (row o : ℕ) → row + o < length l
     → l' ≡ splice l row (map (entry_said p w q) (below o)) → set l' (row + o) (entry_said p w q o) ≡ splice l row (map (entry_said p w q) (below (o + 1)))

@@ -4,7 +4,6 @@ use Rattle.spec.specs.declared.Told.{Told}
 use Rattle.spec.specs.Answers.{kind}
 use mathlib.Core.Path.{◌≡◌, sym, ap, ◌∙◌}
 use native.Mathlib.Omega.{arith}
-use borrow.Author.Rules.{rules}
 use Rattle.api_answers.proofs.apply.Goals as goal
 
 pub returns-then-r-le1 : goal.returns-then-r-le1

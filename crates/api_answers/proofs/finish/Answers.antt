@@ -2,7 +2,6 @@
 use Rattle.spec.specs.declared.Told.{Told}
 use Rattle.spec.specs.Answers.{kind, is_refused}
 use Rattle.spec.specs.Memory.{state_bytes}
-use borrow.Author.Rules.{rules}
 use borrow.Author.Tests.{le-leb, lt-leb}
 use mathlib.Core.Bool.{Bool, true, false, cond}
 use mathlib.Core.Path.{◌≡◌, sym, ap, ◌∙◌}

@@ -2,7 +2,6 @@
 use Rattle.api_answers.specs.Numbers.{out_of_reach, names_beyond, names_it}
 use Rattle.spec.specs.Memory.{state_of}
 use Rattle.spec.specs.Params.{in_range}
-use borrow.Author.Rules.{rules}
 use borrow.Author.Tests.{not-true, not-false}
 use lib.Dec.{eqb}
 use mathlib.Core.Bool.{true, false}

@@ -1,7 +1,6 @@
 -- `good_restart`: `out_of_range` for the parameters, `names_one` for a drive below N; else only 255 is good (`names_none`). Assumes nothing.
 use Rattle.api_answers.specs.Numbers.{out_of_range, names_one, names_none}
 use Rattle.spec.specs.Params.{in_range}
-use borrow.Author.Rules.{rules}
 use borrow.Author.Tests.{not-true, not-false}
 use lib.Dec.{eqb}
 use mathlib.Core.Bool.{true, false}

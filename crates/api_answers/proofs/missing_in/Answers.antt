@@ -1,6 +1,5 @@
 -- `missing_in`: fewer than two bytes decode to 0 (`missing_short`); else the mask is byte 1 (`missing_long`). Assumes nothing.
 use Rattle.api_answers.specs.Numbers.{missing_short, missing_long}
-use borrow.Author.Rules.{rules}
 use native.Mathlib.Omega.{arith}
 use Rattle.api_answers.proofs.missing_in.Goals as goal
 

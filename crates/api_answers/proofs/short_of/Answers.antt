@@ -1,7 +1,6 @@
 -- `short_of`: both ways through the if give what `short_answer` refuses with, 2 or 1. Assumes nothing.
 use Rattle.spec.specs.Host.{told_of}
 use Rattle.spec.specs.declared.Answer.TheVariants.{Refused}
-use borrow.Author.Rules.{rules}
 use mathlib.Core.Bool.{Bool, cond}
 use mathlib.Core.Path.{sym, ap, ◌∙◌}
 use Rattle.api_answers.proofs.short_of.Goals as goal

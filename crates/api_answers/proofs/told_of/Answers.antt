@@ -1,7 +1,6 @@
 -- `told_of`: variant by variant: kind and values unfold to the numbers that the code gives. Assumes nothing.
 use Rattle.spec.specs.Host.{told_of}
 use Rattle.spec.specs.Answers.{kind, values}
-use borrow.Author.Rules.{rules}
 use mathlib.Core.Path.{sym, ap, ◌∙◌}
 use Rattle.api_answers.proofs.told_of.Goals as goal
 

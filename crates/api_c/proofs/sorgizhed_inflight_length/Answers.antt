@@ -1,7 +1,6 @@
 -- `sorgizhed_inflight_length`: in range it is `inflight_len`, else 0: the two sides of the contract's cond. Assumes nothing.
 use Rattle.spec.specs.Params.{mk_params, in_range, inflight_len}
 use Rattle.spec.specs.declared.Params.{Params}
-use borrow.Author.Rules.{rules}
 use mathlib.Core.Bool.{Bool, true, false, cond}
 use mathlib.Core.Path.{◌≡◌, sym, ap, ◌∙◌}
 use Rattle.api_c.proofs.sorgizhed_inflight_length.Goals as goal

@@ -8,7 +8,6 @@ use Rattle.spec.specs.Engine.Call.{read}
 use Rattle.spec.specs.Params.{mk_params, in_range}
 use Rattle.spec.specs.declared.Params.{Params}
 use Rattle.law_lent.specs.Shorts.{short_answer, read_short, read_keeps}
-use borrow.Author.Rules.{rules}
 use mathlib.Core.Bool.{Bool}
 use mathlib.Core.List.{[]}
 use mathlib.Core.Path.{sym, ap, ◌∙◌}

@@ -11,7 +11,6 @@ use Rattle.spec.specs.Params.{mk_params, in_range}
 use Rattle.spec.specs.declared.Params.{Params}
 use Rattle.spec.specs.declared.State.{State}
 use Rattle.law_lent.specs.Shorts.{short_answer, reclaim_short, reclaim_keeps}
-use borrow.Author.Rules.{rules}
 use mathlib.Core.Bool.{Bool}
 use mathlib.Core.List.{[]}
 use mathlib.Core.Path.{◌≡◌, sym, ap, ◌∙◌}

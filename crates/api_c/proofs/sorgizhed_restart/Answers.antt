@@ -10,7 +10,6 @@ use Rattle.spec.specs.Params.{mk_params, in_range}
 use Rattle.spec.specs.declared.Params.{Params}
 use Rattle.spec.specs.Restart.{names_drive}
 use Rattle.law_lent.specs.Shorts.{short_answer, restart_short}
-use borrow.Author.Rules.{rules}
 use mathlib.Core.Bool.{Bool, ◌&&◌}
 use mathlib.Core.List.{[]}
 use mathlib.Core.Path.{sym, ap, ◌∙◌}

@@ -1,6 +1,5 @@
 -- `leaf_copy`: unequal lengths: the test of the contract is false and dst stays; else it is `copy`. Assumes nothing.
 use borrow.Author.Tests.{eq-eqb, ne_eqb}
-use borrow.Author.Rules.{rules}
 use Rattle.bench_leaves.proofs.leaf_copy.Goals as goal
 
 pub returns-then-src-dst : goal.returns-then-src-dst

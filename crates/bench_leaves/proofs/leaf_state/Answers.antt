@@ -6,7 +6,6 @@ use native.Mathlib.Omega.{arith}
 use Rattle.spec.specs.Memory.{state_len, state_bytes}
 use Rattle.spec.specs.declared.State.{State}
 use Rattle.bench_leaves.specs.Bench.{set_cell, bench_changed}
-use borrow.Author.Rules.{rules}
 use Rattle.bench_leaves.proofs.leaf_state.Goals as goal
 
 pub returns-then-src-state_len : goal.returns-then-src-state_len

@@ -1,6 +1,5 @@
 -- `leaf_xor`: unequal lengths: the test of the contract is false and dst stays; else it is `xor_into`. Assumes nothing.
 use borrow.Author.Tests.{eq-eqb, ne_eqb}
-use borrow.Author.Rules.{rules}
 use Rattle.bench_leaves.proofs.leaf_xor.Goals as goal
 
 pub returns-then-src-dst : goal.returns-then-src-dst

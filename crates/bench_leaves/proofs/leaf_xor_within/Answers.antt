@@ -4,7 +4,6 @@ use Prim.Native.Nat.{◌+◌}
 use native.Mathlib.Omega.{arith}
 use lib.ListN.{length}
 use borrow.Author.Tests.{le-leb, lt-leb}
-use borrow.Author.Rules.{rules}
 use Rattle.bench_leaves.proofs.leaf_xor_within.Goals as goal
 
 pub returns-then-buf-b : goal.returns-then-buf-b

@@ -1,14 +1,9 @@
 -- `run_longs`: after i turns the bytes of the first i numbers stand in front; one turn appends the 8 bytes of first + i. Assumes nothing.
-use mathlib.Core.Path.{◌≡◌, refl, ◌∙◌}
+use mathlib.Core.Path.{◌≡◌}
 use Prim.Native.Nat.{◌-◌, ◌≤◌}
-use native.Mathlib.Omega.{arith}
 use lib.ListN.{length, take}
 use Rattle.spec.specs.Bytes.{to_be, splice}
 use Rattle.spec.specs.Lists.{up_from, flat}
-use Rattle.mem_codec.specs.Codec.{written_none, written_all}
-use Rattle.law_basic.specs.Be.{length-to_be}
-use Rattle.law_basic.specs.Ranges.{length_up_from}
-use Rattle.bench_leaves.specs.Bench.{run_one}
 use Rattle.bench_leaves.proofs.run_longs.Given as goal
 
 abbrev pub invariant-loop-i : goal.invariant-loop-i

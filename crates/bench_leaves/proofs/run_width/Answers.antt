@@ -1,10 +1,8 @@
 -- `run_width`: after i turns the bytes of the first i numbers stand in front; one turn appends the 8 bytes of first + i, by `write_be`. Assumes nothing.
-use mathlib.Core.Path.{◌≡◌, refl, ◌∙◌}
-use Prim.Native.Nat.{◌-◌, ◌≤◌}
+use mathlib.Core.Path.{refl, ◌∙◌}
 use native.Mathlib.Omega.{arith}
-use lib.ListN.{length, take}
-use Rattle.spec.specs.Bytes.{to_be, splice}
-use Rattle.spec.specs.Lists.{up_from, flat}
+use Rattle.spec.specs.Bytes.{to_be}
+use Rattle.spec.specs.Lists.{up_from}
 use Rattle.mem_codec.specs.Codec.{written_none, written_all}
 use Rattle.law_basic.specs.Be.{length-to_be}
 use Rattle.law_basic.specs.Ranges.{length_up_from}

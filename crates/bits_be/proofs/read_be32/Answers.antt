@@ -1,6 +1,5 @@
 -- `read_be32`: four bytes below 256, so no sum passes 2 ^ 32; `be_of-part_four` says that the nested sum is their number. Assumes nothing.
 use native.Mathlib.Omega.{arith}
-use Rattle.spec.specs.Engine.Call.{close}
 use Rattle.law_basic.specs.Be.{be_of-part_four}
 use Rattle.bits_be.proofs.read_be32.Goals as goal
 

@@ -2,8 +2,6 @@
 use mathlib.Core.Path.{sym, ap₂, ◌∙◌}
 use Prim.Native.Nat.{ℕ, ◌+◌, ◌*◌}
 use native.Mathlib.Omega.{arith}
-use borrow.Author.Rules.{rules}
-use Rattle.spec.specs.Engine.Call.{close}
 use Rattle.law_basic.specs.Be.{be_of-part-add}
 use Rattle.bits_be.proofs.read_be64.Goals as goal
 

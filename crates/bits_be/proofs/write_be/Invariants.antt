@@ -1,11 +1,8 @@
 -- `write_be`: the bytes from at + i on are the lowest width - i of n, and rest is what stands above them. Assumes nothing.
-use mathlib.Core.Path.{◌≡◌, refl, ap₂, ◌∙◌}
-use Prim.Native.Nat.{ℕ, ◌+◌, ◌-◌, ◌/◌, ◌^◌, ◌≤◌}
-use native.Mathlib.Omega.{arith}
-use lib.ListN.{length, length-set}
+use mathlib.Core.Path.{◌≡◌}
+use Prim.Native.Nat.{◌+◌, ◌-◌, ◌/◌, ◌^◌, ◌≤◌}
+use lib.ListN.{length}
 use Rattle.spec.specs.Bytes.{to_be, splice}
-use Rattle.spec.specs.Engine.Call.{close}
-use Rattle.law_basic.specs.Be.{written-zero, written-suc}
 use Rattle.bits_be.proofs.write_be.Given as goal
 
 abbrev pub invariant-loop-i : goal.invariant-loop-i

@@ -3,7 +3,6 @@ use Prim.Native.Nat.{◌/◌, ◌%◌}
 use native.Mathlib.Omega.{arith}
 use lib.ListN.{length-set}
 use Rattle.spec.specs.Bytes.{to_be}
-use Rattle.spec.specs.Engine.Call.{close}
 use Rattle.law_basic.specs.Splice.{wrote_four}
 use Rattle.bits_be.proofs.write_be32.Goals as goal
 

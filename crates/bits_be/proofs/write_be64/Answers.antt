@@ -3,10 +3,8 @@ use mathlib.Core.Path.{◌≡◌, sym, ap, ap₂, ◌∙◌}
 use mathlib.Core.List.{List}
 use Prim.Native.Nat.{ℕ, ◌+◌, ◌/◌}
 use native.Mathlib.Omega.{arith}
-use borrow.Author.Rules.{rules}
 use lib.ListN.{length}
 use Rattle.spec.specs.Bytes.{to_be, splice}
-use Rattle.spec.specs.Engine.Call.{close}
 use Rattle.law_basic.specs.Be.{length-to_be, to_be-add, to_be-mod}
 use Rattle.law_basic.specs.Splice.{splice_next}
 use Rattle.bits_be.proofs.write_be64.Goals as goal

@@ -1,6 +1,5 @@
 -- `read_le32`: four bytes below 256, so no sum passes 2 ^ 32; `le_of_part_four` says that the nested sum is their number. Assumes nothing.
 use Rattle.law_basic.specs.Le.{le_of_part_four}
-use borrow.Author.Rules.{rules}
 use Rattle.bits_le.proofs.read_le32.Goals as goal
 
 pub returns : goal.returns

@@ -4,7 +4,6 @@ use Prim.Native.Nat.{◌<◌}
 use native.Mathlib.Omega.{arith}
 use borrow.Author.Rules.{rules}
 use lib.Count.{ones-le}
-use Rattle.spec.specs.Engine.Call.{close}
 use Rattle.bits_masks.proofs.count.Goals as goal
 
 pub overflow_cast-result : goal.overflow_cast-result

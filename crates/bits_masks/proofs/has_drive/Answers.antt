@@ -2,7 +2,6 @@
 use mathlib.Core.Path.{sym}
 use Prim.Native.Nat.{◌<◌}
 use borrow.Author.Rules.{rules}
-use Rattle.spec.specs.Engine.Call.{close}
 use Rattle.law_basic.specs.Mask.{is_in_pow, is_in_none}
 use Rattle.bits_masks.proofs.has_drive.Goals as goal
 

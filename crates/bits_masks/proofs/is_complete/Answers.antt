@@ -1,9 +1,7 @@
 -- `is_complete`: `count` is the number of ones, so that the code compares what the definition compares. Assumes nothing.
 use mathlib.Core.Path.{ap}
 use Prim.Native.Nat.{ℕ}
-use borrow.Author.Rules.{rules}
 use lib.Dec.{eqb}
-use Rattle.spec.specs.Engine.Call.{close}
 use Rattle.bits_masks.proofs.is_complete.Goals as goal
 
 pub returns : goal.returns

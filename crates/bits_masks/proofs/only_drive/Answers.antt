@@ -1,7 +1,5 @@
 -- `only_drive`: above 7 the mask is none; else 1 shifted by the drive is the mask of it alone. Assumes nothing.
 use mathlib.Core.Path.{sym}
-use borrow.Author.Rules.{rules}
-use Rattle.spec.specs.Engine.Call.{close}
 use Rattle.law_basic.specs.Mask.{only_none, shl_only}
 use Rattle.bits_masks.proofs.only_drive.Goals as goal
 

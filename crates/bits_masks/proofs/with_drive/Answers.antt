@@ -1,8 +1,6 @@
 -- `with_drive`: `only_drive` is the mask of the drive alone; the bitwise or is that of the definition. Assumes nothing.
 use mathlib.Core.Path.{ap}
-use borrow.Author.Rules.{rules}
 use lib.Bits.{bit_or}
-use Rattle.spec.specs.Engine.Call.{close}
 use Rattle.bits_masks.proofs.with_drive.Goals as goal
 
 pub returns : goal.returns

@@ -13,7 +13,6 @@ use Rattle.spec.specs.declared.Answer.{Answer}
 use Rattle.call_close.specs.Ready.{slot_is}
 use Rattle.call_write.specs.Ready.{lent_long_lem}
 use Rattle.law_views.specs.Views.{seen}
-use borrow.Author.Rules.{rules}
 use borrow.Author.Tests.{not-true, not-false}
 use Prim.Native.Nat.{ℕ}
 use mathlib.Core.Bool.{true}

@@ -17,7 +17,6 @@ use Rattle.law_basic.specs.Geometry.{ranged, data_count_high}
 use Rattle.mem_rows.specs.Rows.{RowsSized, slot_row}
 use Rattle.mem_rows.specs.declared.Change.{Change}
 use Rattle.mem_rows.specs.declared.Row.{Row}
-use borrow.Author.Rules.{rules}
 use mathlib.Core.Path.{◌≡◌, refl, sym, ap, ◌∙◌, subst}
 use native.Mathlib.Omega.{arith}
 use Rattle.call_close.proofs.close.Goals as goal

@@ -5,7 +5,6 @@ use Rattle.spec.specs.Memory.{slot_byte, set_slot_block}
 use Rattle.call_filling.specs.Entries.{drive_for, entered, placed_row_of}
 use lib.ListN.{replicate}
 use mathlib.Core.Path.{◌≡◌, ap, ◌∙◌}
-use borrow.Author.Rules.{rules}
 use Rattle.call_close.proofs.pad.Goals as goal
 
 pub returns : goal.returns

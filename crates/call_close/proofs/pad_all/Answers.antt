@@ -5,9 +5,7 @@ use Rattle.call_close.specs.Pads.{padded_row, pads_turn, pads_end, pad_filled}
 use Rattle.spec.specs.Params.{data_count}
 use Rattle.call_filling.specs.Entries.{PlacedRow}
 use Rattle.mem_rows.specs.declared.Row.{Row}
-use borrow.Author.Rules.{rules}
-use lib.ListN.{length}
-use mathlib.Core.Path.{◌≡◌, refl, sym, ap, ◌∙◌}
+use mathlib.Core.Path.{refl, sym, ap, ◌∙◌}
 use native.Mathlib.Omega.{arith}
 use Rattle.call_close.proofs.pad_all.Goals as goal
 use Rattle.call_close.proofs.pad_all.Goals.{In-loop-k}

@@ -1,14 +1,9 @@
 -- `pad_all`: k is the number filled, and padding the rest from here gives what padding from the start gives; a turn pads one position. Assumes nothing.
-use Prim.Native.Nat.{ℕ, ◌+◌, ◌-◌, ◌≤◌, ◌<◌}
-use Rattle.law_basic.specs.Geometry.{ranged, data_count_high}
-use Rattle.call_close.specs.Pads.{padded_row, pads_turn, pads_end, pad_filled}
+use Prim.Native.Nat.{◌-◌, ◌≤◌}
+use Rattle.call_close.specs.Pads.{padded_row}
 use Rattle.spec.specs.Params.{data_count}
-use Rattle.call_filling.specs.Entries.{PlacedRow}
-use Rattle.mem_rows.specs.declared.Row.{Row}
-use borrow.Author.Rules.{rules}
 use lib.ListN.{length}
-use mathlib.Core.Path.{◌≡◌, refl, sym, ap, ◌∙◌}
-use native.Mathlib.Omega.{arith}
+use mathlib.Core.Path.{◌≡◌}
 use Rattle.call_close.proofs.pad_all.Given as goal
 
 abbrev pub invariant-loop-k : goal.invariant-loop-k

@@ -6,7 +6,6 @@ use Rattle.spec.specs.Lists.{cons_if, is_nil}
 use Rattle.spec.specs.Memory.{state_of}
 use Rattle.spec.specs.Reclaim.{victim, idle}
 use Rattle.call_reclaim_victim.specs.Outside.{outside_told}
-use borrow.Author.Rules.{rules}
 use borrow.Author.Tests.{eq-eqb, ne_eqb, not-true, not-false}
 use mathlib.Core.Bool.{Bool, true, false, not}
 use mathlib.Core.List.{[]}

@@ -12,7 +12,6 @@ use Rattle.spec.specs.Memory.{Memory, mk_memory, state_of}
 use Rattle.law_basic.specs.Geometry.{ranged}
 use Rattle.call_copy.specs.Copying.{copy_sent, block_at}
 use Rattle.call_reclaim_victim.specs.Waiting.{data_there}
-use borrow.Author.Rules.{rules}
 use lib.ListN.{length, take, replicate, length-replicate}
 use lib.Seq.{length-take-le}
 use mathlib.Core.List.{[]}

@@ -14,7 +14,6 @@ use Rattle.law_calls.specs.Slots.{slot_lt}
 use Rattle.mem_rows.specs.Rows.{RowsSized, behind}
 use Rattle.mem_rows.specs.declared.Change.{Change}
 use Rattle.mem_rows.specs.declared.Front.{Front}
-use borrow.Author.Rules.{rules}
 use lib.Arith.{lt_of_le-ne}
 use mathlib.Core.Path.{sym, ap, ◌∙◌, subst}
 use native.Mathlib.Omega.{arith}

@@ -5,7 +5,6 @@ use Rattle.spec.specs.Params.{unit_len}
 use Rattle.law_basic.specs.Geometry.{place_within}
 use Rattle.law_basic.specs.Splice.{part_lent}
 use Rattle.call_copy.specs.Copying.{front_part}
-use borrow.Author.Rules.{rules}
 use lib.ListN.{take, drop}
 use mathlib.Core.Path.{ap, ◌∙◌}
 use native.Mathlib.Omega.{arith}

@@ -7,7 +7,6 @@ use Rattle.spec.specs.Memory.{Memory, mk_memory, zero_state}
 use Rattle.spec.specs.declared.Answer.{Answer}
 use Rattle.spec.specs.declared.State.{State}
 use Rattle.call_write.specs.Ready.{lent_long_lem}
-use borrow.Author.Rules.{rules}
 use borrow.Author.Tests.{not-true, not-false}
 use mathlib.Core.Path.{◌≡◌, sym, ap, ◌∙◌}
 use Rattle.call_empty.proofs.checks.Goals as goal

@@ -13,7 +13,6 @@ use Rattle.law_views.specs.Views.{seen}
 use Rattle.mem_rows.specs.Rows.{kept_as}
 use Rattle.mem_rows.specs.declared.Change.{Change}
 use Rattle.spec.specs.declared.Answer.TheVariants.{Nothing}
-use borrow.Author.Rules.{rules}
 use borrow.Author.Tests.{lt-ltb, le-ltb, not-true, not-false}
 use mathlib.Core.Bool.{true, false}
 use mathlib.Core.Path.{◌≡◌, refl, sym, ap, ◌∙◌}

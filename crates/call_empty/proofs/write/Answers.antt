@@ -2,7 +2,6 @@
 use Rattle.call_empty.specs.Ends.{empty_block, some_bytes}
 use Rattle.spec.specs.Drives.{Disk, mk_disk}
 use Rattle.spec.specs.Memory.{Memory, mk_memory}
-use borrow.Author.Rules.{rules}
 use Rattle.call_empty.proofs.write.Goals as goal
 
 pub returns-then-block-eq0 : goal.returns-then-block-eq0

@@ -7,7 +7,6 @@ use lib.ListN.{set}
 use mathlib.Core.Bool.{cond}
 use mathlib.Core.Path.{◌≡◌, ap, ◌∙◌}
 use native.Mathlib.Numerals.{add-one}
-use borrow.Author.Rules.{rules}
 use Rattle.call_filling.proofs.added.Goals as goal
 
 pub returns : goal.returns

@@ -2,7 +2,6 @@
 use Rattle.call_filling.specs.Aims.{aim_filling, aim_begins}
 use Rattle.mem_rows.specs.Rows.{behind}
 use native.Mathlib.Omega.{arith}
-use borrow.Author.Rules.{rules}
 use Rattle.call_filling.proofs.aim_of.Goals as goal
 
 pub returns-then-i-lt8 : goal.returns-then-i-lt8

@@ -1,12 +1,11 @@
 -- `any_elsewhere`: some eighth from i on is in flight elsewhere just when any stripe in flight is; a found one ends it, one passed drops off. Assumes nothing.
 use Rattle.mem_rows.specs.Rows.{behind}
-use Prim.Native.Nat.{◌-◌, ◌≤◌}
-use Rattle.spec.specs.Lists.{up_from, below, any}
+use Rattle.spec.specs.Lists.{below}
 use Rattle.spec.specs.Memory.{slot_count, slots, is_free, in_flight}
 use Rattle.spec.specs.Write.{other_group}
 use Rattle.law_scans.specs.Scans.{any_found, any_passed, any-ended, any-start, any-keep}
 use mathlib.Core.Bool.{not, ◌&&◌}
-use mathlib.Core.Path.{◌≡◌, sym, ◌∙◌}
+use mathlib.Core.Path.{sym, ◌∙◌}
 use native.Mathlib.Omega.{arith}
 use Rattle.call_filling.proofs.any_elsewhere.Goals as goal
 

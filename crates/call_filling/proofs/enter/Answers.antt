@@ -10,7 +10,6 @@ use lib.Dec.{leb}
 use mathlib.Core.Bool.{Bool, true, false, cond, not}
 use mathlib.Core.Path.{◌≡◌, sym, ap, ◌∙◌}
 use native.Mathlib.Omega.{arith}
-use borrow.Author.Rules.{rules}
 use Rattle.call_filling.proofs.enter.Goals as goal
 
 pub added-next-requires : goal.added-next-requires

@@ -1,7 +1,5 @@
 -- `filling_slot`: i plus the index of the first filling eighth from i on is the answer; a hit has index 0, a miss goes one on, 8 ends it. Assumes nothing.
 use Rattle.mem_rows.specs.Rows.{behind}
-use Prim.Native.Nat.{◌+◌, ◌-◌, ◌≤◌}
-use Rattle.spec.specs.Lists.{up_from, index_of}
 use Rattle.spec.specs.Memory.{slot_count, slots, is_filling, filling_slot}
 use Rattle.law_basic.specs.Ranges.{found_hit, found_miss, found_end, found-start}
 use mathlib.Core.Path.{◌≡◌, sym, ◌∙◌}

@@ -2,10 +2,8 @@
 use Rattle.mem_rows.specs.Rows.{behind}
 use Prim.Native.Nat.{◌+◌, ◌-◌, ◌≤◌}
 use Rattle.spec.specs.Lists.{up_from, index_of}
-use Rattle.spec.specs.Memory.{slot_count, slots, is_free, free_slot}
-use Rattle.law_basic.specs.Ranges.{found_hit, found_miss, found_end, found-start}
-use mathlib.Core.Path.{◌≡◌, sym, ◌∙◌}
-use native.Mathlib.Omega.{arith}
+use Rattle.spec.specs.Memory.{is_free, free_slot}
+use mathlib.Core.Path.{◌≡◌}
 use Rattle.call_filling.proofs.free_slot.Given as goal
 
 abbrev pub invariant-loop-i : goal.invariant-loop-i

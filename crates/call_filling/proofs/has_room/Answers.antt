@@ -3,7 +3,6 @@ use Prim.Native.Nat.{ℕ, ◌+◌}
 use Rattle.call_filling.specs.Aims.{room_test}
 use lib.Dec.{ltb}
 use mathlib.Core.Path.{ap, ◌∙◌}
-use borrow.Author.Rules.{rules}
 use Rattle.call_filling.proofs.has_room.Goals as goal
 
 pub returns : goal.returns

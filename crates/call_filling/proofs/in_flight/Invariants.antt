@@ -1,14 +1,11 @@
 -- `in_flight`: n plus the number of eighths in flight from i on is the number of all; n is at most i, and a turn counts eighth i or passes it. Assumes nothing.
 use Rattle.mem_rows.specs.Rows.{behind}
-use Prim.Native.Nat.{ℕ, ◌+◌, ◌-◌, ◌≤◌}
+use Prim.Native.Nat.{◌+◌, ◌-◌, ◌≤◌}
 use Rattle.spec.specs.Lists.{up_from, keep}
-use Rattle.spec.specs.Memory.{slot_count, slots, is_free, in_flight}
-use Rattle.law_scans.specs.Scans.{kept-one, kept_none, kept-ended, kept-start}
+use Rattle.spec.specs.Memory.{is_free, in_flight}
 use lib.ListN.{length}
-use mathlib.Core.Bool.{Bool, not}
-use mathlib.Core.Logic.{⊎_elim}
-use mathlib.Core.Path.{◌≡◌, sym, ap, ◌∙◌}
-use native.Mathlib.Omega.{arith}
+use mathlib.Core.Bool.{not}
+use mathlib.Core.Path.{◌≡◌}
 use Rattle.call_filling.proofs.in_flight.Given as goal
 
 abbrev pub invariant-loop-i : goal.invariant-loop-i

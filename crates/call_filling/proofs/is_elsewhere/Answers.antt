@@ -6,7 +6,6 @@ use Rattle.mem_rows.specs.Rows.{behind}
 use lib.Dec.{eqb}
 use mathlib.Core.Bool.{Bool, not, ◌&&◌}
 use mathlib.Core.Path.{◌≡◌, sym, ap, ◌∙◌}
-use borrow.Author.Rules.{rules}
 use Rattle.call_filling.proofs.is_elsewhere.Goals as goal
 
 pub returns-then-is_free : goal.returns-then-is_free

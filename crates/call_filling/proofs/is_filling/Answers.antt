@@ -3,7 +3,6 @@ use Rattle.spec.specs.Memory.{filled_in_of, is_full, is_filling}
 use Rattle.mem_rows.specs.Rows.{behind}
 use mathlib.Core.Bool.{Bool, not, ◌&&◌}
 use mathlib.Core.Path.{sym, ap, ◌∙◌}
-use borrow.Author.Rules.{rules}
 use Rattle.call_filling.proofs.is_filling.Goals as goal
 
 pub returns-then-is_free : goal.returns-then-is_free

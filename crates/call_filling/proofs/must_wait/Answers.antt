@@ -13,7 +13,6 @@ use lib.ListN.{length}
 use mathlib.Core.Bool.{Bool, true, false, not, ◌&&◌, ◌||◌, or-false}
 use mathlib.Core.Path.{◌≡◌, sym, ap, ◌∙◌}
 use native.Mathlib.Omega.{arith}
-use borrow.Author.Rules.{rules}
 use Rattle.call_filling.proofs.must_wait.Goals as goal
 use Rattle.call_filling.proofs.must_wait.Lts
 use Rattle.call_filling.proofs.must_wait.Reads

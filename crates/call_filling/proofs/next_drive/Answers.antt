@@ -2,7 +2,6 @@
 use Rattle.spec.specs.Layout.{data_drive}
 use Rattle.call_filling.specs.Entries.{drive_for}
 use mathlib.Core.Path.{ap₂, ◌∙◌}
-use borrow.Author.Rules.{rules}
 use Rattle.call_filling.proofs.next_drive.Goals as goal
 
 pub returns : goal.returns

@@ -4,7 +4,6 @@ use Rattle.spec.specs.Bytes.{splice}
 use Rattle.spec.specs.Memory.{slot_byte, set_slot_block}
 use Rattle.call_filling.specs.Entries.{drive_for, entered, placed_row_of}
 use mathlib.Core.Path.{◌≡◌, ap, ◌∙◌}
-use borrow.Author.Rules.{rules}
 use Rattle.call_filling.proofs.place.Goals as goal
 
 pub returns : goal.returns

@@ -2,7 +2,6 @@
 use Prim.Native.Nat.{ℕ}
 use Rattle.spec.specs.Drives.{view_of}
 use Rattle.call_filling.specs.Left.{scarce-count}
-use borrow.Author.Rules.{rules}
 use lib.Dec.{leb}
 use mathlib.Core.Path.{ap, ◌∙◌}
 use Rattle.call_filling.proofs.scarce.Goals as goal

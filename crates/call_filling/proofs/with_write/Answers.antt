@@ -1,7 +1,6 @@
 -- `with_write`: a write adds the bit of k, which is once that bit; without one zero times the bit is added, which changes nothing. Assumes nothing.
 use Prim.Native.Nat.{◌*◌}
 use Rattle.spec.specs.Lists.{only}
-use borrow.Author.Rules.{rules}
 use lib.Bits.{bit_or, or_zero_r}
 use mathlib.Core.Bool.{Bool, cond}
 use mathlib.Core.Path.{sym, ap, ◌∙◌}

@@ -13,7 +13,6 @@ use Rattle.call_land.specs.Order.{land_missing_passes, waiting_fails, waiting_pa
 use Rattle.call_land.specs.Plan.{LookedAt}
 use Rattle.call_land.specs.Ready.{waits_low, filled-low}
 use Rattle.call_write.specs.Ready.{lent_long_lem}
-use borrow.Author.Rules.{rules}
 use borrow.Author.Tests.{not-true, not-false}
 use Prim.Native.Nat.{ℕ}
 use mathlib.Core.Bool.{true}

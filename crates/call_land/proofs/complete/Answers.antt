@@ -3,7 +3,6 @@ use Prim.Native.Nat.{ℕ}
 use Rattle.spec.specs.Drives.{Disk, mk_disk}
 use Rattle.spec.specs.declared.Answer.TheVariants.{Landed}
 use Rattle.call_land.specs.Plan.{completing_cut, completing_done}
-use borrow.Author.Rules.{rules}
 use lib.ListN.{replicate}
 use mathlib.Core.Path.{refl, ap, ◌∙◌}
 use Rattle.call_land.proofs.complete.Goals as goal

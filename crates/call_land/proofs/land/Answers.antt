@@ -13,7 +13,6 @@ use Rattle.call_land.specs.Ready.{land_refusal}
 use Rattle.mem_rows.specs.declared.Change.{Change}
 use Rattle.mem_rows.specs.Rows.{RowsSized}
 use Rattle.law_views.specs.Views.{seen}
-use borrow.Author.Rules.{rules}
 use mathlib.Core.Path.{◌≡◌, sym, ap, ◌∙◌, subst}
 use Rattle.call_land.proofs.land.Goals as goal
 use Rattle.call_land.proofs.land.Lts

@@ -14,7 +14,6 @@ use Rattle.mem_rows.specs.declared.Row.{Row}
 use Rattle.mem_rows.specs.Rows.{slot_row}
 use Rattle.law_views.specs.Views.{seen}
 use Rattle.call_land_chunk.specs.Alone.{alone, mark_row, free_row}
-use borrow.Author.Rules.{rules}
 use borrow.Author.Tests.{not-true, not-false}
 use mathlib.Core.Bool.{true, false}
 use mathlib.Core.Path.{◌≡◌, sym, ap, ◌∙◌, subst}

@@ -11,7 +11,6 @@ use Rattle.law_basic.specs.Splice.{length_part, part_lent}
 use Rattle.law_basic.specs.Fields.{length_record}
 use Rattle.disk_records.specs.Record.{rec_val}
 use Rattle.call_land_chunk.specs.Alone.{alone}
-use borrow.Author.Rules.{rules}
 use lib.ListN.{length, take, drop}
 use mathlib.Core.Path.{◌≡◌, sym, ap, ◌∙◌}
 use Prim.Native.Nat.{◌+◌, ◌-◌}

@@ -1,7 +1,6 @@
 -- `seal`: without sealing there is no store (`seals_none`); with it there are those of `seal_stores`, whose room is required (`seals_some`). Assumes nothing.
 use Rattle.spec.specs.Drives.{Disk, mk_disk}
 use Rattle.call_land.specs.Plan.{seals_none, seals_some}
-use borrow.Author.Rules.{rules}
 use borrow.Author.Tests.{not-true, not-false}
 use Rattle.call_land.proofs.seal.Goals as goal
 

@@ -1,7 +1,6 @@
 -- `show_chunk`: index and value are `compact_at` and `compact_entry`, and the index is within the table; the write is `set`. Assumes nothing.
 use Rattle.spec.specs.Layout.{compact_entry}
 use Rattle.spec.specs.Memory.{compact_at}
-use borrow.Author.Rules.{rules}
 use lib.ListN.{set, length-set}
 use mathlib.Core.Path.{◌≡◌}
 use native.Mathlib.Omega.{arith}

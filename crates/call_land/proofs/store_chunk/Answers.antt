@@ -6,7 +6,6 @@ use Rattle.spec.specs.Memory.{compact_at}
 use Rattle.spec.specs.Params.{capacity}
 use Rattle.law_basic.specs.Geometry.{ranged, data_below}
 use Rattle.call_land_chunk.specs.Alone.{mark_row}
-use borrow.Author.Rules.{rules}
 use lib.ListN.{set}
 use mathlib.Core.Path.{ap, ◌∙◌}
 use native.Mathlib.Omega.{arith}

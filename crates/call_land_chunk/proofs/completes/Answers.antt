@@ -3,7 +3,6 @@ use Prim.Native.Nat.{ℕ}
 use Rattle.spec.specs.Landing.{completes}
 use Rattle.spec.specs.Memory.{landed_in, landed_mask}
 use Rattle.call_land_chunk.specs.Alone.{alone}
-use borrow.Author.Rules.{rules}
 use lib.Count.{ones}
 use lib.Dec.{eqb}
 use mathlib.Core.Path.{ap, ◌∙◌}

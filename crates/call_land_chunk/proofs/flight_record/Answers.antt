@@ -5,7 +5,6 @@ use Rattle.spec.specs.Memory.{stripe_in, entry_in_of}
 use Rattle.law_basic.specs.Geometry.{ranged}
 use Rattle.law_code.specs.Chunks.{flight_data, flight_parity}
 use Rattle.call_land_chunk.specs.Alone.{alone}
-use borrow.Author.Rules.{rules}
 use mathlib.Core.Bool.{true, false}
 use mathlib.Core.Path.{◌≡◌, sym, ap, ◌∙◌}
 use native.Mathlib.Omega.{arith}

@@ -1,6 +1,5 @@
 -- `mark_landed`: field by field: landed is the mask with drive d, the offsets have o set at d, and o fits 32 bits. Assumes nothing.
 use Rattle.call_land_chunk.specs.Alone.{mark_row}
-use borrow.Author.Rules.{rules}
 use lib.ListN.{set}
 use Rattle.call_land_chunk.proofs.mark_landed.Goals as goal
 

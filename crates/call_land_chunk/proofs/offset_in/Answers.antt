@@ -1,6 +1,5 @@
 -- `offset_in`: the element at the drive, made wide, is the offset in the state with one stripe (`alone_offset`). Assumes nothing.
 use Rattle.call_land_chunk.specs.Alone.{alone_offset}
-use borrow.Author.Rules.{rules}
 use mathlib.Core.Path.{sym, ◌∙◌}
 use Rattle.call_land_chunk.proofs.offset_in.Goals as goal
 

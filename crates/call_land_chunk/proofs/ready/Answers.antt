@@ -6,7 +6,6 @@ use Rattle.spec.specs.Lists.{is_in}
 use Rattle.spec.specs.Memory.{stripe_in, filled_in_of, landed_in, is_full}
 use Rattle.spec.specs.Params.{data_count}
 use Rattle.call_land_chunk.specs.Alone.{alone}
-use borrow.Author.Rules.{rules}
 use lib.Dec.{leb, ltb}
 use mathlib.Core.Bool.{Bool, true, false, cond, not, ◌&&◌}
 use mathlib.Core.Path.{◌≡◌, sym, ap, ap₂, ◌∙◌}

@@ -2,7 +2,6 @@
 use Rattle.spec.specs.Landing.{ready}
 use Rattle.spec.specs.Memory.{slot_count}
 use Rattle.call_land_chunk.specs.Alone.{alone}
-use borrow.Author.Rules.{rules}
 use borrow.Author.Tests.{lt-ltb, le-ltb}
 use lib.Dec.{ltb}
 use mathlib.Core.Bool.{Bool, true, false, ◌&&◌}

@@ -8,7 +8,6 @@ use Rattle.call_land_chunk.specs.Alone.{alone}
 use lib.ListN.{length}
 use mathlib.Core.Bool.{Bool}
 use mathlib.Core.List.{List}
-use mathlib.Core.Logic.{⊎_elim}
 use mathlib.Core.Path.{◌≡◌, sym, ap, ◌∙◌}
 use native.Mathlib.Omega.{arith}
 use Rattle.call_land_chunk.proofs.writes_in.Goals as goal

@@ -1,16 +1,11 @@
 -- `writes_in`: n plus the writes among positions k on is the number of all; n is at most k, and a turn counts position k or passes it. Assumes nothing.
-use Prim.Native.Nat.{ℕ, ◌+◌, ◌-◌, ◌≤◌}
+use Prim.Native.Nat.{◌+◌, ◌-◌, ◌≤◌}
 use Rattle.spec.specs.Landing.{writes_in}
-use Rattle.spec.specs.Lists.{up_from, keep, tally}
+use Rattle.spec.specs.Lists.{up_from, keep}
 use Rattle.spec.specs.Memory.{filled_in_of, is_write}
-use Rattle.law_scans.specs.Scans.{kept-one, kept_none, kept-ended, kept-start}
 use Rattle.call_land_chunk.specs.Alone.{alone}
 use lib.ListN.{length}
-use mathlib.Core.Bool.{Bool}
-use mathlib.Core.List.{List}
-use mathlib.Core.Logic.{⊎_elim}
-use mathlib.Core.Path.{◌≡◌, sym, ap, ◌∙◌}
-use native.Mathlib.Omega.{arith}
+use mathlib.Core.Path.{◌≡◌}
 use Rattle.call_land_chunk.proofs.writes_in.Given as goal
 
 abbrev pub invariant-loop-k : goal.invariant-loop-k

@@ -1,7 +1,6 @@
 -- `chunk_fault`: `bad_lowest` for a misplaced chunk, else `fine_lowest`. Assumes nothing.
 use Rattle.spec.specs.Lists.{least, cons_if}
 use Rattle.call_land_faults.specs.Lowest.{bad_lowest, fine_lowest}
-use borrow.Author.Rules.{rules}
 use mathlib.Core.Bool.{Bool}
 use mathlib.Core.List.{[]}
 use mathlib.Core.Path.{sym, ap, ◌∙◌}

@@ -1,17 +1,12 @@
 -- `entries_fault`: the lowest of worst and the faults of entries k on is the answer; a turn takes entry k's if it is lower (`faults_lower`). Assumes nothing.
-use Prim.Native.Nat.{ℕ, ◌+◌, ◌-◌, ◌≤◌, ◌<◌}
-use Rattle.spec.specs.Drives.{View, view_of}
+use Prim.Native.Nat.{◌-◌, ◌≤◌}
+use Rattle.spec.specs.Drives.{view_of}
 use Rattle.spec.specs.Landing.{entry_faults}
-use Rattle.spec.specs.Layout.{Rec}
-use Rattle.spec.specs.Lists.{below, least, flat, cons_if}
+use Rattle.spec.specs.Lists.{below, least, flat}
 use Rattle.spec.specs.Memory.{filled_in_of, entry_in_of}
-use Rattle.call_land_faults.specs.Lowest.{faults_from, faults_first, faults_lower, faults_same, faults_end, entries_by}
+use Rattle.call_land_faults.specs.Lowest.{faults_from}
 use Rattle.call_land_chunk.specs.Alone.{alone}
-use lib.Dec.{ltb}
-use mathlib.Core.List.{List, []}
-use mathlib.Core.Logic.{⊎_elim}
-use mathlib.Core.Path.{◌≡◌, sym, ap, ◌∙◌}
-use native.Mathlib.Omega.{arith}
+use mathlib.Core.Path.{◌≡◌}
 use Rattle.call_land_faults.proofs.entries_fault.Given as goal
 
 abbrev pub invariant-loop-k : goal.invariant-loop-k

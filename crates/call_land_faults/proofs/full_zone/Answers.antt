@@ -3,7 +3,6 @@ use Rattle.spec.specs.Drives.{zone_on}
 use Rattle.spec.specs.Lists.{cons_if}
 use Rattle.law_basic.specs.Segs.{low_here}
 use Rattle.call_land_faults.specs.Lowest.{bad_named, nbad_named}
-use borrow.Author.Rules.{rules}
 use lib.Dec.{ltb}
 use mathlib.Core.Bool.{Bool}
 use mathlib.Core.List.{[]}

@@ -3,7 +3,6 @@ use Prim.Native.Nat.{ℕ, ◌-◌}
 use Rattle.spec.specs.Drives.{pointer_of}
 use Rattle.spec.specs.Layout.{group}
 use Rattle.call_land_faults.specs.Lowest.{misplaced-low, misplaced_high, misplaced_else}
-use borrow.Author.Rules.{rules}
 use lib.Dec.{eqb}
 use mathlib.Core.Bool.{not}
 use mathlib.Core.Path.{◌≡◌, ap, ◌∙◌}

@@ -4,7 +4,6 @@ use Rattle.spec.specs.Drives.{pointer_of, zone_on}
 use Rattle.spec.specs.Params.{footers, capacity}
 use Rattle.law_basic.specs.Segs.{low_here}
 use Rattle.call_land_faults.specs.Lowest.{over_by}
-use borrow.Author.Rules.{rules}
 use borrow.Author.Tests.{eq-eqb, ne_eqb}
 use lib.Dec.{ltb, eqb}
 use mathlib.Core.Bool.{true, false, cond}

@@ -1,10 +1,9 @@
 -- `overfull`: the lowest of worst and the zones from drive e on is the answer; a turn takes drive e's zone if it is lower (`faults_lower`). Assumes nothing.
-use Prim.Native.Nat.{ℕ, ◌+◌, ◌-◌, ◌≤◌, ◌<◌}
+use Prim.Native.Nat.{ℕ, ◌+◌, ◌≤◌, ◌<◌}
 use Rattle.spec.specs.Drives.{zone_on}
-use Rattle.spec.specs.Lists.{least, flat, cons_if, below}
+use Rattle.spec.specs.Lists.{least, cons_if}
 use Rattle.call_land_faults.specs.Lowest.{over_by, over_view, faults_from, faults_first, faults_lower, faults_same, faults_end}
 use mathlib.Core.List.{List, []}
-use mathlib.Core.Logic.{⊎_elim}
 use mathlib.Core.Path.{◌≡◌, sym, ap, ◌∙◌}
 use native.Mathlib.Omega.{arith}
 use Rattle.call_land_faults.proofs.overfull.Goals as goal

@@ -6,7 +6,6 @@ use Rattle.law_basic.specs.Geometry.{ranged, data_count_high}
 use Rattle.call_land_table.specs.Winners.{other_address, best_same_address}
 use Rattle.disk_rank.specs.Ranked.{ranked_best}
 use Rattle.call_land_chunk.specs.Alone.{alone}
-use borrow.Author.Rules.{rules}
 use mathlib.Core.Path.{sym, ap, ◌∙◌}
 use native.Mathlib.Omega.{arith}
 use Rattle.call_land_table.proofs.compete.Goals as goal

@@ -9,7 +9,6 @@ use Rattle.law_basic.specs.Geometry.{ranged}
 use Rattle.law_basic.specs.Mask.{is_in_empty}
 use Rattle.law_drives.specs.Settled.{zero_here}
 use Rattle.disk_holders.specs.Held.{place_serial_at}
-use borrow.Author.Rules.{rules}
 use mathlib.Core.Path.{◌≡◌, ap, ap₂, ◌∙◌, sym}
 use native.Mathlib.Omega.{arith}
 use Rattle.call_land_table.proofs.held_cand.Goals as goal

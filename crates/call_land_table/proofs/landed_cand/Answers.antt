@@ -8,7 +8,6 @@ use Rattle.spec.specs.Params.{place_of}
 use Rattle.law_basic.specs.Geometry.{ranged, data_count_high, data_below}
 use Rattle.law_basic.specs.Segs.{low_here}
 use Rattle.call_land_chunk.specs.Alone.{alone}
-use borrow.Author.Rules.{rules}
 use mathlib.Core.Path.{◌≡◌, ap, ◌∙◌, subst, sym}
 use native.Mathlib.Omega.{arith}
 use Rattle.call_land_table.proofs.landed_cand.Goals as goal

@@ -4,7 +4,6 @@ use Rattle.law_basic.specs.Geometry.{ranged}
 use Rattle.law_basic.specs.Segs.{low_here}
 use Rattle.call_land_table.specs.Winners.{winners_are}
 use Rattle.call_land_chunk.specs.Alone.{alone}
-use borrow.Author.Rules.{rules}
 use mathlib.Core.Path.{◌∙◌}
 use native.Mathlib.Omega.{arith}
 use Rattle.call_land_table.proofs.point.Goals as goal

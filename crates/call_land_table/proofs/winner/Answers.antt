@@ -1,16 +1,12 @@
 -- `winner`: the best of b and positions k on is the best of the table's and all; a turn lets position k compete (`winner_turn`). Assumes nothing.
-use Prim.Native.Nat.{◌-◌, ◌≤◌}
 use Rattle.spec.specs.Drives.{View, view_of}
-use Rattle.spec.specs.Landing.{held, landed_cand, landed_cands}
-use Rattle.spec.specs.Lists.{up_from, Opt}
-use Rattle.spec.specs.Memory.{filled_in_of}
+use Rattle.spec.specs.Landing.{landed_cands}
+use Rattle.spec.specs.Lists.{Opt}
 use Rattle.spec.specs.Rank.{Cand, best, place_or, cands_of}
 use Rattle.call_land_table.specs.Winners.{rest_first, winner_turn, rest_last}
 use Rattle.disk_rank.specs.Ranked.{ranked_best}
 use Rattle.call_land_chunk.specs.Alone.{alone}
-use borrow.Author.Rules.{rules}
-use mathlib.Core.List.{map}
-use mathlib.Core.Path.{◌≡◌, sym, ap, ◌∙◌}
+use mathlib.Core.Path.{sym, ap, ◌∙◌}
 use native.Mathlib.Omega.{arith}
 use Rattle.call_land_table.proofs.winner.Goals as goal
 

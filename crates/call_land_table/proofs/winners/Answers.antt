@@ -1,15 +1,14 @@
 -- `winners`: the first k places are the winners of addresses below L; a turn sets the next one (`set_winner`) or leaves one not below L. Assumes nothing.
 use Rattle.call_land_chunk.specs.Alone.{alone}
-use Prim.Native.Nat.{ℕ, ◌+◌, ◌-◌, ◌≤◌, ◌<◌}
+use Prim.Native.Nat.{ℕ, ◌+◌, ◌<◌}
 use Rattle.spec.specs.Drives.{View, view_of}
 use Rattle.spec.specs.Landing.{landed_cands}
 use Rattle.spec.specs.Layout.{Rec}
-use Rattle.spec.specs.Memory.{filled_in_of, entry_in_of, place_at_of}
+use Rattle.spec.specs.Memory.{entry_in_of, place_at_of}
 use Rattle.law_basic.specs.Geometry.{ranged, data_count_high}
 use Rattle.call_land_table.specs.Winners.{Sane, winner_of, set_winner, keep_winner}
 use lib.ListN.{length, get_or, length-set}
 use mathlib.Core.List.{List}
-use mathlib.Core.Logic.{⊎_elim}
 use mathlib.Core.Path.{◌≡◌, refl, sym, ap, ◌∙◌, subst}
 use native.Mathlib.Omega.{arith}
 use Rattle.call_land_table.proofs.winners.Goals as goal

@@ -1,17 +1,12 @@
 -- `winners`: the first k places are the winners of addresses below L; a turn sets the next one (`set_winner`) or leaves one not below L. Assumes nothing.
 use Rattle.call_land_chunk.specs.Alone.{alone}
-use Prim.Native.Nat.{ℕ, ◌+◌, ◌-◌, ◌≤◌, ◌<◌}
-use Rattle.spec.specs.Drives.{View, view_of}
+use Prim.Native.Nat.{ℕ, ◌-◌, ◌≤◌, ◌<◌}
+use Rattle.spec.specs.Drives.{view_of}
 use Rattle.spec.specs.Landing.{landed_cands}
-use Rattle.spec.specs.Layout.{Rec}
-use Rattle.spec.specs.Memory.{filled_in_of, entry_in_of, place_at_of}
-use Rattle.law_basic.specs.Geometry.{ranged, data_count_high}
-use Rattle.call_land_table.specs.Winners.{Sane, winner_of, set_winner, keep_winner}
-use lib.ListN.{length, get_or, length-set}
-use mathlib.Core.List.{List}
-use mathlib.Core.Logic.{⊎_elim}
-use mathlib.Core.Path.{◌≡◌, refl, sym, ap, ◌∙◌, subst}
-use native.Mathlib.Omega.{arith}
+use Rattle.spec.specs.Memory.{filled_in_of, entry_in_of}
+use Rattle.call_land_table.specs.Winners.{winner_of}
+use lib.ListN.{length, get_or}
+use mathlib.Core.Path.{◌≡◌}
 use Rattle.call_land_table.proofs.winners.Given as goal
 
 abbrev pub invariant-loop-k : goal.invariant-loop-k

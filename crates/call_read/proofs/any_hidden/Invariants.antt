@@ -1,17 +1,10 @@
 -- `any_hidden`: some drive from d on hides the stripe just when any drive does; a found one ends it, one passed drops off. Assumes nothing.
-use Prim.Native.Nat.{ℕ, ◌-◌, ◌≤◌}
-use Rattle.spec.specs.declared.Params.{Params}
+use Prim.Native.Nat.{◌-◌, ◌≤◌}
 use Rattle.spec.specs.Lists.{up_from, any}
-use Rattle.law_basic.specs.Geometry.{ranged}
-use Rattle.law_scans.specs.Scans.{any_found, any_passed, any-ended, any-start}
 use Rattle.call_read.specs.Decode.{any_hidden}
-use borrow.Author.Tests.{eq-eqb, ne_eqb}
 use lib.Dec.{eqb}
 use lib.ListN.{get_or}
-use mathlib.Core.Bool.{Bool}
-use mathlib.Core.List.{List}
-use mathlib.Core.Path.{◌≡◌, sym, ◌∙◌}
-use native.Mathlib.Omega.{arith}
+use mathlib.Core.Path.{◌≡◌}
 use Rattle.call_read.proofs.any_hidden.Given as goal
 
 -- some drive from d on just if any

@@ -1,14 +1,11 @@
 -- `block_bytes`: the first d entries are the bytes at which the present drives' blocks begin; each turn sets the next. Assumes nothing.
-use mathlib.Core.Path.{◌≡◌, refl, ◌∙◌}
+use mathlib.Core.Path.{◌≡◌}
 use mathlib.Core.Bool.{false}
 use mathlib.Core.List.{List}
 use Prim.Native.Nat.{ℕ, ◌-◌, ◌≤◌, ◌<◌}
-use native.Mathlib.Omega.{arith}
-use lib.ListN.{length, get_or, length-set}
+use lib.ListN.{length, get_or}
 use Rattle.spec.specs.Lists.{is_in}
 use Rattle.spec.specs.Params.{image_len}
-use Rattle.law_basic.specs.Each.{set_next}
-use Rattle.law_basic.specs.Geometry.{ranged}
 use Rattle.call_read.specs.Decode.{BlockAt}
 use Rattle.call_read.proofs.block_bytes.Given as goal
 

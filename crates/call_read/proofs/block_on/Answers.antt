@@ -2,7 +2,6 @@
 use mathlib.Core.Path.{◌≡◌, sym, ◌∙◌}
 use mathlib.Core.Bool.{true, false}
 use native.Mathlib.Omega.{arith}
-use borrow.Author.Rules.{rules}
 use Rattle.spec.specs.Lists.{is_in}
 use Rattle.law_basic.specs.Geometry.{ranged, data_below}
 use Rattle.law_basic.specs.Ranges.{not_both}

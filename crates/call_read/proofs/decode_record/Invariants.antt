@@ -1,18 +1,11 @@
 -- `decode_record`: the first d entries are address and stamp of the present drives' records; from all of them `disk_code` decodes. Assumes nothing.
-use mathlib.Core.Path.{◌≡◌, refl, ap, ◌∙◌}
+use mathlib.Core.Path.{◌≡◌}
 use mathlib.Core.List.{List}
 use mathlib.Core.Bool.{false}
 use Prim.Native.Nat.{ℕ, ◌-◌, ◌≤◌, ◌<◌}
-use native.Mathlib.Omega.{arith}
-use borrow.Author.Rules.{rules}
-use lib.ListN.{length, get_or, length-set}
-use Rattle.spec.specs.Drives.{View, view_of, record_at}
-use Rattle.spec.specs.Layout.{Rec, mk_rec}
+use lib.ListN.{length, get_or}
+use Rattle.spec.specs.Drives.{view_of, record_at}
 use Rattle.spec.specs.Lists.{is_in}
-use Rattle.law_basic.specs.Each.{set_next}
-use Rattle.law_basic.specs.Geometry.{ranged}
-use Rattle.law_code.specs.Code.{decode_rec_same}
-use Rattle.call_read.specs.Decode.{record_as_sealed}
 use Rattle.call_read.proofs.decode_record.Given as goal
 
 abbrev pub invariant-loop-d : goal.invariant-loop-d

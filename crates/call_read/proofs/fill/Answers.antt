@@ -19,7 +19,6 @@ use Rattle.spec.specs.Lists.{is_in}
 use lib.ListN.{length}
 use mathlib.Core.List.{List}
 use mathlib.Core.Path.{◌≡◌, refl, sym, ap, ◌∙◌, subst}
-use borrow.Author.Rules.{rules}
 use Rattle.call_read.proofs.fill.Goals as goal
 use Rattle.call_read.proofs.fill.Lts
 use Rattle.call_read.proofs.fill.Reads

@@ -4,7 +4,6 @@ use Rattle.spec.specs.Bytes.{part}
 use Rattle.spec.specs.Params.{unit_len}
 use Rattle.law_basic.specs.Splice.{part_lent}
 use Rattle.call_read.specs.Placed.{place_in_image}
-use borrow.Author.Rules.{rules}
 use mathlib.Core.Path.{ap, ◌∙◌}
 use native.Mathlib.Omega.{arith}
 use Rattle.call_read.proofs.fill_here.Goals as goal

@@ -1,7 +1,6 @@
 -- `fill_lost`: drive and stripe of the place, and the block that `disk_code` decodes. Assumes nothing.
 use mathlib.Core.Path.{sym, ◌∙◌, subst}
 use Prim.Native.Nat.{ℕ, ◌-◌, ◌<◌}
-use borrow.Author.Rules.{rules}
 use native.Mathlib.Omega.{arith}
 use lib.ListN.{get_or}
 use Rattle.spec.specs.Bytes.{part}

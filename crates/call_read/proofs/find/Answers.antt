@@ -14,7 +14,6 @@ use Rattle.call_read.specs.declared.Sought.{Sought}
 use Prim.Native.Nat.{ℕ}
 use mathlib.Core.List.{[]}
 use mathlib.Core.Path.{◌≡◌, sym, ap, ◌∙◌}
-use borrow.Author.Rules.{rules}
 use Rattle.call_read.proofs.find.Goals as goal
 use Rattle.call_read.proofs.find.Lts
 use Rattle.call_read.proofs.find.Reads

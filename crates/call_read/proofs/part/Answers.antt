@@ -4,31 +4,20 @@ use Rattle.spec.specs.Answers.{kind}
 use Rattle.spec.specs.Bytes.{part}
 use Rattle.spec.specs.Calls.{After}
 use Rattle.spec.specs.Drives.{Disk, mk_disk}
-use Rattle.spec.specs.Engine.{call_disk}
-use Rattle.spec.specs.Engine.Call.{read}
-use Rattle.spec.specs.Lists.{any, is_member_of}
 use Rattle.spec.specs.Memory.{mk_memory, state_of}
 use Rattle.spec.specs.declared.Answer.{Answer}
 use Rattle.spec.specs.declared.Stamp.{Stamp}
 use Rattle.spec.specs.declared.Answer.TheVariants.{Refused, BadZone, Cut, Sent, Landed, Closed, Copied, Reset, Part, Never, Lost, Filled, Restarted, Rebuilt, Nothing}
-use Rattle.spec.specs.contracts.Answer.{the_type}
-use Rattle.law_basic.specs.Ranges.{not_both}
 use Rattle.law_basic.specs.Splice.{part-zero, part_lent}
 use Rattle.call_read.specs.Ends.{part_within}
 use Rattle.call_read.specs.Part.{part_here, part_none}
 use Rattle.spec.specs.Host.{part_at, part_len}
-use borrow.Author.Rules.{rules}
-use borrow.Author.Tests.{eq-eqb}
-use denote.Enum.Declared.{tag_of}
 use lib.Dec.{eqb}
 use lib.ListN.{length}
-use mathlib.Core.Bool.{Bool, true, false, ◌||◌}
-use mathlib.Core.List.{List, [], ◌∷◌}
-use mathlib.Core.Logic.{inl, inr}
+use mathlib.Core.Bool.{false}
 use mathlib.Core.Path.{◌≡◌, refl, sym, ap, ◌∙◌}
 use native.Mathlib.Nat.{add-zero, add_comm}
 use native.Mathlib.Omega.{arith}
-use types.Run.{OneOf}
 use Rattle.call_read.proofs.part.Goals as goal
 
 pub overflow_add-e : goal.overflow_add-e

@@ -2,7 +2,6 @@
 use mathlib.Core.Path.{◌≡◌, sym, ap, ◌∙◌}
 use mathlib.Core.Bool.{true, false}
 use Prim.Native.Nat.{ℕ}
-use borrow.Author.Rules.{rules}
 use Rattle.spec.specs.Drives.{view_of, zone_at, record_in}
 use Rattle.spec.specs.Lists.{is_in}
 use Rattle.law_basic.specs.Ranges.{not_both}

@@ -16,7 +16,6 @@ use Rattle.call_write.specs.Ready.{lent_long_lem}
 use Rattle.law_basic.specs.Geometry.{ranged}
 use Rattle.law_drives.specs.Segs.{Here}
 use Rattle.law_drives.specs.States.{state_of_lem}
-use borrow.Author.Rules.{rules}
 use borrow.Author.Tests.{not-true, not-false}
 use mathlib.Core.Bool.{true}
 use mathlib.Core.Path.{◌≡◌, sym, ap, ◌∙◌, subst, transport}

@@ -12,7 +12,6 @@ use Rattle.disk_holders.specs.Held.{is_one_of, HeldAs}
 use Rattle.mem_lookup.specs.Places.{fault_outside}
 use Rattle.call_read.specs.Placed.{zone_there, zone_absent}
 use Rattle.call_read.specs.Sought.{seeks_bad, seeks_fine}
-use borrow.Author.Rules.{rules}
 use mathlib.Core.List.{[]}
 use mathlib.Core.Path.{◌≡◌, ap, ◌∙◌, subst}
 use Rattle.call_read.proofs.seek_away.Goals as goal

@@ -5,7 +5,6 @@ use Rattle.mem_lookup.specs.declared.Found.{Found}
 use Rattle.call_read.specs.Placed.{Sorted}
 use Rattle.call_read.specs.Sought.{SeeksAll, seeks_nowhere}
 use Rattle.call_read.specs.declared.Sought.TheVariants.{Never}
-use borrow.Author.Rules.{rules}
 use mathlib.Core.Path.{sym, subst}
 use Rattle.call_read.proofs.seek_found.Goals as goal
 

@@ -9,7 +9,6 @@ use Rattle.disk_holders.specs.Borne.{remains_low, remains_in}
 use Rattle.disk_holders.specs.Held.{held_segment}
 use Rattle.call_read.specs.Decode.{OffsetsLow, data_offsets}
 use Rattle.call_read.specs.Sought.{seeks_hidden, seeks_shown}
-use borrow.Author.Rules.{rules}
 use mathlib.Core.Path.{◌≡◌, refl, sym, ap, ◌∙◌, subst}
 use Rattle.call_read.proofs.seek_lost.Goals as goal
 use Rattle.call_read.proofs.seek_lost.Goals.{After-place_block-s, After-seg_for-segment, Else-any_hidden}

@@ -1,9 +1,9 @@
 -- `shown_offsets`: the first d entries say where the drives show the stripe; each turn sets the next. Assumes nothing.
 use mathlib.Core.Path.{◌≡◌, refl, ◌∙◌}
-use Prim.Native.Nat.{ℕ, ◌-◌, ◌≤◌, ◌<◌}
+use Prim.Native.Nat.{ℕ}
 use mathlib.Core.List.{List}
 use native.Mathlib.Omega.{arith}
-use lib.ListN.{length, get_or, length-set}
+use lib.ListN.{length, length-set}
 use Rattle.spec.specs.Drives.{view_of}
 use Rattle.spec.specs.Params.{image_len}
 use Rattle.law_basic.specs.Each.{set_next}

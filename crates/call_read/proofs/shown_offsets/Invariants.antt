@@ -1,13 +1,10 @@
 -- `shown_offsets`: the first d entries say where the drives show the stripe; each turn sets the next. Assumes nothing.
-use mathlib.Core.Path.{◌≡◌, refl, ◌∙◌}
+use mathlib.Core.Path.{◌≡◌}
 use Prim.Native.Nat.{ℕ, ◌-◌, ◌≤◌, ◌<◌}
 use mathlib.Core.List.{List}
-use native.Mathlib.Omega.{arith}
-use lib.ListN.{length, get_or, length-set}
+use lib.ListN.{length, get_or}
 use Rattle.spec.specs.Drives.{view_of}
 use Rattle.spec.specs.Params.{image_len}
-use Rattle.law_basic.specs.Each.{set_next}
-use Rattle.law_basic.specs.Geometry.{ranged}
 use Rattle.call_read.specs.Decode.{ShownOn}
 use Rattle.call_read.proofs.shown_offsets.Given as goal
 

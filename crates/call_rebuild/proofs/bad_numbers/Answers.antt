@@ -2,8 +2,6 @@
 use mathlib.Core.Path.{sym, ap, ◌∙◌}
 use mathlib.Core.Bool.{not}
 use borrow.Author.Tests.{not-true, not-false}
-use Rattle.spec.specs.Engine.Call.{close}
-use Rattle.spec.specs.History.{before}
 use Rattle.call_rebuild.specs.Order.{numbers_bad, numbers_named}
 use Rattle.call_rebuild.proofs.bad_numbers.Goals as goal
 

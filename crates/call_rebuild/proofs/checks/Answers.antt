@@ -6,7 +6,6 @@ use Prim.Native.Nat.{ℕ}
 use borrow.Author.Tests.{not-true, not-false}
 use native.Mathlib.Omega.{arith}
 use Rattle.spec.specs.Drives.{Disk, mk_disk}
-use Rattle.spec.specs.Engine.Call.{close}
 use Rattle.spec.specs.Engine.{lent_ok_of}
 use Rattle.spec.specs.Faults.{pointer_faults}
 use Rattle.spec.specs.History.{before}

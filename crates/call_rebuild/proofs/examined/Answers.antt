@@ -3,11 +3,9 @@
 use mathlib.Core.Path.{◌≡◌, sym, ◌∙◌, subst}
 use mathlib.Core.List.{[]}
 use Prim.Native.Nat.{ℕ}
-use borrow.Author.Rules.{rules}
 use native.Mathlib.Omega.{arith}
 use Rattle.spec.specs.declared.Answer.TheVariants.{BadZone}
 use Rattle.spec.specs.Drives.{Disk, mk_disk}
-use Rattle.spec.specs.Engine.Call.{close}
 use Rattle.spec.specs.History.{before}
 use Rattle.spec.specs.Memory.{Memory, mk_memory}
 use Rattle.spec.specs.Params.{named}

@@ -4,8 +4,6 @@ use mathlib.Core.Bool.{Bool, ◌&&◌}
 use Prim.Native.Nat.{ℕ}
 use borrow.Author.Tests.{lt-ltb, le-ltb}
 use lib.Dec.{eqb}
-use Rattle.spec.specs.Engine.Call.{close}
-use Rattle.spec.specs.History.{before}
 use Rattle.spec.specs.Params.{named}
 use Rattle.law_drives.specs.Masks.{only-named}
 use Rattle.call_rebuild.proofs.names_missing.Goals as goal

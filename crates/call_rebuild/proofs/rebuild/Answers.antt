@@ -1,9 +1,6 @@
 -- `rebuild`: a check that fails refuses the whole call (`rebuild_front_refused`); with none `examined` gives the rest. Assumes nothing.
 use mathlib.Core.Path.{sym, ap, ◌∙◌}
-use borrow.Author.Rules.{rules}
 use Rattle.spec.specs.Drives.{mk_disk}
-use Rattle.spec.specs.Engine.Call.{close}
-use Rattle.spec.specs.History.{before}
 use Rattle.spec.specs.Memory.{mk_memory}
 use Rattle.mem_calls.specs.Left.{checked}
 use Rattle.call_rebuild.specs.Ends.{ends_rebuild_refused}

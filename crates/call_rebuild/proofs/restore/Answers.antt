@@ -1,11 +1,8 @@
 -- `restore`: with no fault the rows are apart, the records good and the stores fit; then `ends_rebuild_cut` or `ends_rebuild_done`. Assumes nothing.
 -- image and pointers, and the rest
 use mathlib.Core.Path.{◌∙◌}
-use borrow.Author.Rules.{rules}
 use native.Mathlib.Omega.{arith}
 use Rattle.spec.specs.Drives.{Disk, mk_disk}
-use Rattle.spec.specs.Engine.Call.{close}
-use Rattle.spec.specs.History.{before}
 use Rattle.call_rebuild.specs.Order.{rebuild_ready}
 use Rattle.spec.specs.Memory.{Memory, mk_memory}
 use Rattle.law_drives.specs.Lengths.{whole_of, lengths_of}

@@ -18,7 +18,6 @@ use Rattle.call_reclaim.specs.Choosing.{reclaim_list_fails, list_done, reclaim_m
 use Rattle.call_reclaim.specs.declared.Choice.{Choice}
 use Rattle.call_reclaim.specs.declared.Choice.TheVariants.{Refuse}
 use Rattle.call_write.specs.Ready.{lent_long_lem}
-use borrow.Author.Rules.{rules}
 use borrow.Author.Tests.{le-leb, lt-leb, not-true, not-false}
 use mathlib.Core.Bool.{Bool, true, cond}
 use mathlib.Core.List.{[], ◌∷◌}

@@ -17,7 +17,6 @@ use Rattle.call_reclaim.specs.Choosing.{copy_rules, bad_zones, later_checks, zon
 use Rattle.law_basic.specs.Geometry.{ranged}
 use Rattle.law_calls.specs.Refusals.{or_next}
 use Rattle.call_filling.specs.Aims.{front_aim}
-use borrow.Author.Rules.{rules}
 use borrow.Author.Tests.{lt-leb, eq-eqb, ne_eqb}
 use lib.Dec.{eqb}
 use mathlib.Core.Bool.{Bool, false, cond}

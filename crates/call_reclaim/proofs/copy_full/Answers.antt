@@ -1,7 +1,6 @@
 -- `copy_full`: zones are counted only where a segment is opened. Assumes nothing.
 use Rattle.spec.specs.Drives.{view_of}
 use Rattle.spec.specs.Write.{scarce}
-use borrow.Author.Rules.{rules}
 use borrow.Author.Tests.{not-true, not-false}
 use mathlib.Core.Bool.{Bool, ◌&&◌}
 use mathlib.Core.Path.{sym, ap, ◌∙◌}

@@ -8,7 +8,6 @@ use Rattle.call_filling.specs.Aims.{front_aim, front_serial, front_wait}
 use Rattle.call_filling.specs.declared.Aim.{Aim}
 use Rattle.call_reclaim.specs.Choosing.{rules_serial, rules_full, rules_wait, rules_pass}
 use Rattle.mem_rows.specs.Rows.{front_of}
-use borrow.Author.Rules.{rules}
 use lib.ListN.{length}
 use Prim.Native.Nat.{ℕ}
 use mathlib.Core.Bool.{false, ◌&&◌}

@@ -2,7 +2,6 @@
 use Rattle.spec.specs.Memory.{state_of}
 use Rattle.call_reclaim.specs.Choosing.{fault_state, fault_table}
 use Rattle.call_reclaim_victim.specs.Outside.{outside_told}
-use borrow.Author.Rules.{rules}
 use borrow.Author.Tests.{not-true, not-false}
 use mathlib.Core.Path.{sym, ◌∙◌}
 use Rattle.call_reclaim.proofs.has_fault.Goals as goal

@@ -16,7 +16,6 @@ use Rattle.mem_rows.specs.Rows.{front_of, after_change}
 use Rattle.mem_rows.specs.declared.Change.{Change}
 use mathlib.Core.List.{[]}
 use mathlib.Core.Path.{◌≡◌, sym, ap, ◌∙◌, subst}
-use borrow.Author.Rules.{rules}
 use Rattle.call_reclaim.proofs.reclaim.Goals as goal
 use Rattle.call_reclaim.proofs.reclaim.Lts
 use Rattle.call_reclaim.proofs.reclaim.Reads

@@ -7,7 +7,6 @@ use Rattle.call_reclaim.specs.Clearing.{reset_cut, reset_done}
 use Rattle.mem_rows.specs.Rows.{kept_as}
 use Rattle.mem_rows.specs.declared.Change.{Change}
 use mathlib.Core.Path.{ap, ◌∙◌}
-use borrow.Author.Rules.{rules}
 use native.Mathlib.Omega.{arith}
 use Rattle.call_reclaim.proofs.reset_segment.Goals as goal
 

@@ -1,6 +1,5 @@
 -- `add_entry`: a place outside counts nowhere; another's zone q / cap is numbered and its segment has a count, which one more fits. Assumes nothing.
 use Prim.Native.Nat.{ℕ, ◌+◌, ◌*◌, ◌/◌, ◌<◌}
-use borrow.Author.Rules.{rules}
 use borrow.Author.Tests.{lt-ltb, le-ltb, le-leb, lt-leb}
 use lib.ListN.{length, get_or, set}
 use lib.Dec.{ltb}

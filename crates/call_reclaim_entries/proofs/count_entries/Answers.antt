@@ -1,5 +1,5 @@
 -- `count_entries`: used holds the entries of the first a addresses by number; a turn adds that of address a (`entered-more`), at most a for each. Assumes nothing.
-use Prim.Native.Nat.{ℕ, ◌+◌, ◌-◌, ◌*◌, ◌/◌, ◌≤◌, ◌<◌}
+use Prim.Native.Nat.{ℕ, ◌+◌, ◌*◌, ◌/◌, ◌≤◌, ◌<◌}
 use Rattle.spec.specs.Params.{capacity, addresses_len}
 use Rattle.spec.specs.Memory.{place_at_of}
 use Rattle.call_reclaim_entries.specs.Entries.{TakenCounted, entered-more}

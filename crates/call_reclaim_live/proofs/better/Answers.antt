@@ -1,6 +1,5 @@
 -- `better`: unsealed keeps best; sealed, `pick_new` where there is none yet, `pick_less` where g has fewer, `pick_old` where it has not. Assumes nothing.
 use Rattle.call_reclaim_live.specs.Fewest.{pick_of, pick_new, pick_less, pick_old}
-use borrow.Author.Rules.{rules}
 use borrow.Author.Tests.{not-true, not-false}
 use lib.ListN.{get_or}
 use mathlib.Core.Bool.{Bool, false, cond}

@@ -1,9 +1,8 @@
 -- `count_windows`: live counts each segment's live blocks below first; a turn marks and counts a window. One window of all leaves its marks. Assumes nothing.
-use Prim.Native.Nat.{ℕ, ◌-◌, ◌*◌, ◌≤◌, ◌<◌}
-use Rattle.call_reclaim_live.specs.Live.{numbered, live_below, LiveCounted, counted-le, only_window, left_marks, window_nearer}
+use Prim.Native.Nat.{ℕ, ◌*◌, ◌<◌}
+use Rattle.call_reclaim_live.specs.Live.{numbered, live_below, counted-le, only_window, left_marks, window_nearer}
 use Rattle.spec.specs.Params.{addresses_len}
 use Rattle.law_basic.specs.Geometry.{ranged, capacity-low, place_lt}
-use Rattle.mem_marks.specs.Marks.{Marks}
 use Rattle.mem_tables.specs.Tables.{count_places}
 use lib.ListN.{length}
 use mathlib.Core.Path.{◌≡◌, refl, ap, ◌∙◌}

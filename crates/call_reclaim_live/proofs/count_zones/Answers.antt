@@ -1,12 +1,9 @@
 -- `count_zones`: at is the first place of zone t, and live counts the live blocks below from; a turn adds the marks of that zone to its segment's count. Assumes nothing.
-use Prim.Native.Nat.{ℕ, ◌+◌, ◌-◌, ◌*◌, ◌/◌, min, max, ◌≤◌, ◌<◌}
-use Rattle.call_reclaim_live.specs.Live.{numbered, live_below, LiveCounted, bounded_more, sum_fits, nearer, live_zone_at, live_zone_begins, zone_within, places_high, counted-more}
+use Prim.Native.Nat.{ℕ, ◌+◌, ◌-◌, ◌*◌, ◌/◌, ◌≤◌, ◌<◌}
+use Rattle.call_reclaim_live.specs.Live.{numbered, live_below, bounded_more, sum_fits, nearer, live_zone_at, live_zone_begins, zone_within, places_high, counted-more}
 use Rattle.spec.specs.Params.{capacity}
-use Rattle.spec.specs.declared.Params.{Params}
 use Rattle.law_basic.specs.Geometry.{ranged, zones_all}
-use Rattle.mem_marks.specs.Marks.{Marks}
 use lib.ListN.{length, get_or, length-set}
-use mathlib.Core.List.{List}
 use mathlib.Core.Path.{◌≡◌, refl, sym, ap, ◌∙◌}
 use native.Mathlib.Nat.{zero-mul}
 use native.Mathlib.Omega.{arith}

@@ -1,7 +1,6 @@
 -- `fewest`: best is the lowest of the sealed segments below g with the least count; a turn weighs g (`least_turn`). Assumes nothing.
-use Prim.Native.Nat.{ℕ, ◌-◌, ◌≤◌}
+use Prim.Native.Nat.{ℕ}
 use Rattle.call_reclaim_live.specs.Least.{Least, least_none, least_turn}
-use borrow.Author.Rules.{rules}
 use mathlib.Core.Path.{◌≡◌, subst}
 use native.Mathlib.Omega.{arith}
 use Rattle.call_reclaim_live.proofs.fewest.Goals as goal

@@ -1,14 +1,12 @@
 -- `find_sealed`: below g each flag says whether its row is kept and sealed; a turn sets one more (`set_more`). Assumes nothing.
 use Prim.Native.Nat.{ℕ, ◌-◌, ◌≤◌, ◌<◌}
 use Rattle.call_reclaim_live.specs.Owners.{sealed_at}
-use Rattle.disk_gather.specs.Found.{set_more}
 use Rattle.spec.specs.Drives.{view_of}
 use Rattle.spec.specs.Params.{image_len}
-use lib.ListN.{length, get_or, length-set}
+use lib.ListN.{length, get_or}
 use mathlib.Core.Bool.{false}
 use mathlib.Core.List.{List}
-use mathlib.Core.Path.{◌≡◌, refl, ◌∙◌}
-use native.Mathlib.Omega.{arith}
+use mathlib.Core.Path.{◌≡◌}
 use Rattle.call_reclaim_live.proofs.find_sealed.Given as goal
 
 abbrev pub invariant-loop-g : goal.invariant-loop-g

@@ -2,7 +2,6 @@
 use Prim.Native.Nat.{ℕ, ◌*◌}
 use Rattle.spec.specs.Params.{capacity}
 use Rattle.law_basic.specs.Geometry.{prod_le, ranged, zones_all}
-use borrow.Author.Rules.{rules}
 use mathlib.Core.Path.{ap}
 use native.Mathlib.Omega.{arith}
 use Rattle.call_reclaim_live.proofs.places.Goals as goal

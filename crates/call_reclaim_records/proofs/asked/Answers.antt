@@ -2,7 +2,6 @@
 -- the product
 use Prim.Native.Nat.{ℕ, ◌+◌, ◌*◌, ◌≤◌}
 use Rattle.law_basic.specs.Geometry.{prod_le}
-use borrow.Author.Rules.{rules}
 use native.Mathlib.Nat.{div-le_self}
 use native.Mathlib.Omega.{arith}
 use Rattle.call_reclaim_records.proofs.asked.Goals as goal

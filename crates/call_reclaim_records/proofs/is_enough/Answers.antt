@@ -6,7 +6,6 @@ use Rattle.law_basic.specs.Segs.{ZonesLow}
 use Rattle.spec.specs.Params.{capacity}
 use Rattle.spec.specs.declared.Seg.{Seg}
 use Prim.Native.Nat.{◌*◌, ◌≤◌}
-use borrow.Author.Rules.{rules}
 use borrow.Author.Tests.{leb-true, not-true, not-false}
 use lib.ListN.{length, get_or}
 use mathlib.Core.Bool.{false}

@@ -1,5 +1,4 @@
 -- `is_fewest`: all segments below g have enough; a turn adds g (`below_more`), and false promises nothing. Assumes nothing.
-use Prim.Native.Nat.{ℕ, ◌-◌, ◌≤◌, ◌<◌}
 use Rattle.law_basic.specs.Ranges.{not_both}
 use Rattle.call_reclaim_records.specs.Vouch.{Enough, below_more}
 use borrow.Author.Tests.{not-false}

@@ -1,11 +1,6 @@
 -- `is_fewest`: all segments below g have enough; a turn adds g (`below_more`), and false promises nothing. Assumes nothing.
 use Prim.Native.Nat.{ℕ, ◌-◌, ◌≤◌, ◌<◌}
-use Rattle.law_basic.specs.Ranges.{not_both}
-use Rattle.call_reclaim_records.specs.Vouch.{Enough, below_more}
-use borrow.Author.Tests.{not-false}
-use mathlib.Core.Bool.{false}
-use mathlib.Core.Path.{refl}
-use native.Mathlib.Omega.{arith}
+use Rattle.call_reclaim_records.specs.Vouch.{Enough}
 use Rattle.call_reclaim_records.proofs.is_fewest.Given as goal
 
 abbrev pub invariant-loop-g : goal.invariant-loop-g

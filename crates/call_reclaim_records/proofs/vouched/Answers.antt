@@ -1,6 +1,5 @@
 -- `vouched`: c is at most the live blocks of the segment on drives below d, and at most 65535 * d; a turn adds drive d's (`drive_more`). Assumes nothing.
-use Prim.Native.Nat.{ℕ, ◌+◌, ◌-◌, ◌*◌, ◌≤◌, ◌<◌}
-use Rattle.call_reclaim_live.specs.Live.{in_seg, live_below}
+use Prim.Native.Nat.{ℕ, ◌+◌, ◌*◌, ◌≤◌, ◌<◌}
 use Rattle.spec.specs.Drives.{zone_on}
 use Rattle.spec.specs.Params.{place_of}
 use Rattle.law_basic.specs.Geometry.{ranged}

@@ -1,14 +1,8 @@
 -- `vouched`: c is at most the live blocks of the segment on drives below d, and at most 65535 * d; a turn adds drive d's (`drive_more`). Assumes nothing.
-use Prim.Native.Nat.{ℕ, ◌+◌, ◌-◌, ◌*◌, ◌≤◌, ◌<◌}
+use Prim.Native.Nat.{◌-◌, ◌*◌, ◌≤◌}
 use Rattle.call_reclaim_live.specs.Live.{in_seg, live_below}
-use Rattle.spec.specs.Drives.{zone_on}
 use Rattle.spec.specs.Params.{place_of}
-use Rattle.law_basic.specs.Geometry.{ranged}
-use Rattle.law_basic.specs.Segs.{low_here}
-use Rattle.call_reclaim_records.specs.Vouch.{pointed_from, live_below_drive, drive_more}
 use lib.ListN.{length}
-use mathlib.Core.Path.{sym, subst}
-use native.Mathlib.Omega.{arith}
 use Rattle.call_reclaim_records.proofs.vouched.Given as goal
 
 abbrev pub invariant-loop-d : goal.invariant-loop-d

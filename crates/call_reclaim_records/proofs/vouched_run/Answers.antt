@@ -1,5 +1,5 @@
 -- `vouched_run`: c is at most the places among the first i that the table points at, and at most i; a turn adds place q + i if it does. Assumes nothing.
-use Prim.Native.Nat.{ℕ, ◌+◌, ◌-◌, ◌*◌, ◌≤◌}
+use Prim.Native.Nat.{ℕ, ◌+◌, ◌*◌, ◌≤◌}
 use Rattle.spec.specs.Params.{spare_len}
 use Rattle.law_basic.specs.Geometry.{spare_len_lem}
 use Rattle.mem_marks.specs.Marks.{is_pointed}

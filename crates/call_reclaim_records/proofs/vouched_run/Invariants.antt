@@ -1,14 +1,7 @@
 -- `vouched_run`: c is at most the places among the first i that the table points at, and at most i; a turn adds place q + i if it does. Assumes nothing.
-use Prim.Native.Nat.{ℕ, ◌+◌, ◌-◌, ◌*◌, ◌≤◌}
-use Rattle.spec.specs.Params.{spare_len}
-use Rattle.law_basic.specs.Geometry.{spare_len_lem}
-use Rattle.mem_marks.specs.Marks.{is_pointed}
-use Rattle.call_reclaim_records.specs.Vouch.{pointed_from, pointed-bit, run_snoc, run_le}
-use lib.Dec.{eqb}
+use Prim.Native.Nat.{◌-◌, ◌≤◌}
+use Rattle.call_reclaim_records.specs.Vouch.{pointed_from}
 use lib.ListN.{length}
-use mathlib.Core.Path.{◌≡◌, sym, ap, ◌∙◌}
-use mir.Val.{bool_byte}
-use native.Mathlib.Omega.{arith}
 use Rattle.call_reclaim_records.proofs.vouched_run.Given as goal
 
 abbrev pub invariant-loop-i : goal.invariant-loop-i

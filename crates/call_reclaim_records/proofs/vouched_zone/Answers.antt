@@ -1,6 +1,6 @@
 -- `vouched_zone`: c is at most those pointed at of the first o data blocks, and footer block f begins at byte at; a turn adds its run. Assumes nothing.
 -- the o data blocks whose records lie in footer blocks before f, which begins at byte at
-use Prim.Native.Nat.{ℕ, ◌+◌, ◌-◌, ◌*◌, ◌≤◌}
+use Prim.Native.Nat.{ℕ, ◌+◌, ◌*◌, ◌≤◌}
 use Rattle.call_reclaim_live.specs.Live.{places_high}
 use Rattle.spec.specs.Params.{per_footer, capacity, unit_len, addresses_len, place_of, place_byte}
 use Rattle.spec.specs.declared.Params.{Params}

@@ -1,17 +1,10 @@
 -- `vouched_zone`: c is at most those pointed at of the first o data blocks, and footer block f begins at byte at; a turn adds its run. Assumes nothing.
 -- the o data blocks whose records lie in footer blocks before f, which begins at byte at
-use Prim.Native.Nat.{ℕ, ◌+◌, ◌-◌, ◌*◌, ◌≤◌}
-use Rattle.call_reclaim_live.specs.Live.{places_high}
-use Rattle.spec.specs.Params.{per_footer, capacity, unit_len, addresses_len, place_of, place_byte}
-use Rattle.spec.specs.declared.Params.{Params}
-use Rattle.law_basic.specs.Geometry.{ranged, spare_len_lem, per_footer_fits, data_below, footers-low, place_lt, block_within, image_high}
-use Rattle.mem_marks.specs.Marks.{is_pointed}
-use Rattle.call_reclaim_records.specs.Vouch.{pointed_from, run_add, run_le, run_longer, next_byte}
+use Prim.Native.Nat.{◌+◌, ◌-◌, ◌≤◌}
+use Rattle.spec.specs.Params.{place_of, place_byte}
+use Rattle.call_reclaim_records.specs.Vouch.{pointed_from}
 use lib.ListN.{length}
-use mathlib.Core.List.{List}
-use mathlib.Core.Path.{◌≡◌, sym, ap, ◌∙◌, subst}
-use native.Mathlib.Nat.{add-zero}
-use native.Mathlib.Omega.{arith}
+use mathlib.Core.Path.{◌≡◌}
 use Rattle.call_reclaim_records.proofs.vouched_zone.Given as goal
 
 abbrev pub invariant-loop-f : goal.invariant-loop-f

@@ -7,7 +7,6 @@ use Rattle.mem_tables.specs.Tables.{count-le}
 use Rattle.call_reclaim_entries.specs.Entries.{entered_none, taken_live}
 use Rattle.call_reclaim_live.specs.Owners.{owners_rows-low, owners_low, place_told}
 use Rattle.call_reclaim_victim.specs.Outside.{outside_told, outside-count}
-use borrow.Author.Rules.{rules}
 use lib.Dec.{eqb}
 use lib.ListN.{length, get_or, replicate, length-replicate, get_or-replicate}
 use mathlib.Core.Bool.{not}

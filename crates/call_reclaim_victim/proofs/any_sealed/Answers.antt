@@ -1,11 +1,9 @@
 -- `any_sealed`: some segment from g on is sealed just when any is; a found one ends it, one passed drops off. Assumes nothing.
 -- a segment from g on is sealed just if any is
-use Prim.Native.Nat.{◌-◌, ◌≤◌}
-use Rattle.spec.specs.Lists.{up_from, below, any}
 use Rattle.law_scans.specs.Scans.{any_found, any_passed, any-ended, any-start}
 use lib.ListN.{get_or}
 use mathlib.Core.Bool.{false}
-use mathlib.Core.Path.{◌≡◌, sym, ◌∙◌}
+use mathlib.Core.Path.{sym, ◌∙◌}
 use native.Mathlib.Omega.{arith}
 use Rattle.call_reclaim_victim.proofs.any_sealed.Goals as goal
 

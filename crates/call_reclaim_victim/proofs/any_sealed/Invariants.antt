@@ -2,11 +2,9 @@
 -- a segment from g on is sealed just if any is
 use Prim.Native.Nat.{◌-◌, ◌≤◌}
 use Rattle.spec.specs.Lists.{up_from, below, any}
-use Rattle.law_scans.specs.Scans.{any_found, any_passed, any-ended, any-start}
 use lib.ListN.{get_or}
 use mathlib.Core.Bool.{false}
-use mathlib.Core.Path.{◌≡◌, sym, ◌∙◌}
-use native.Mathlib.Omega.{arith}
+use mathlib.Core.Path.{◌≡◌}
 use Rattle.call_reclaim_victim.proofs.any_sealed.Given as goal
 
 abbrev pub invariant-loop-g : goal.invariant-loop-g

@@ -2,7 +2,6 @@
 use Prim.Native.Nat.{ℕ, ◌≤◌}
 use Rattle.law_basic.specs.Geometry.{ranged}
 use Rattle.law_drives.specs.Settled.{zero_here}
-use borrow.Author.Rules.{rules}
 use lib.ListN.{length-replicate}
 use mathlib.Core.Bool.{Bool, false}
 use mathlib.Core.Path.{sym, subst}

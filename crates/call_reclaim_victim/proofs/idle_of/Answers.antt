@@ -4,7 +4,6 @@ use Prim.Native.Nat.{ℕ, ◌*◌, ◌≤◌}
 use Rattle.spec.specs.Drives.{View, view_of}
 use Rattle.spec.specs.Params.{capacity}
 use Rattle.call_reclaim_victim.specs.Waiting.{waiting-at, waiting_none}
-use borrow.Author.Rules.{rules}
 use lib.ListN.{length}
 use mathlib.Core.List.{List}
 use mathlib.Core.Path.{refl}

@@ -1,11 +1,11 @@
 -- `idle_run`: found is right below q; a turn skips to the next mark (`run_skip`) and takes it (`idle-step`); `run_other` if not mine. Assumes nothing.
 use Rattle.spec.specs.Memory.{state_of}
-use Prim.Native.Nat.{ℕ, ◌+◌, ◌-◌, ◌≤◌, ◌<◌}
-use Rattle.call_reclaim_live.specs.Live.{in_seg, places_high}
+use Prim.Native.Nat.{ℕ, ◌+◌, ◌-◌, ◌≤◌}
+use Rattle.call_reclaim_live.specs.Live.{places_high}
 use Rattle.spec.specs.Drives.{View, view_of}
 use Rattle.law_basic.specs.Geometry.{ranged}
-use Rattle.mem_marks.specs.Marks.{is_marked, Marks}
-use Rattle.call_reclaim_victim.specs.Waiting.{IdleBelow, waiting-at, run_other, run_skip, idle-step}
+use Rattle.mem_marks.specs.Marks.{is_marked}
+use Rattle.call_reclaim_victim.specs.Waiting.{waiting-at, run_other, run_skip, idle-step}
 use borrow.Author.Tests.{not-true, not-false}
 use mathlib.Core.List.{List}
 use mathlib.Core.Path.{◌≡◌, ap, ◌∙◌}

@@ -1,15 +1,12 @@
 -- `idle_run`: found is right below q; a turn skips to the next mark (`run_skip`) and takes it (`idle-step`); `run_other` if not mine. Assumes nothing.
 use Rattle.spec.specs.Memory.{state_of}
-use Prim.Native.Nat.{ℕ, ◌+◌, ◌-◌, ◌≤◌, ◌<◌}
-use Rattle.call_reclaim_live.specs.Live.{in_seg, places_high}
-use Rattle.spec.specs.Drives.{View, view_of}
-use Rattle.law_basic.specs.Geometry.{ranged}
-use Rattle.mem_marks.specs.Marks.{is_marked, Marks}
-use Rattle.call_reclaim_victim.specs.Waiting.{IdleBelow, waiting-at, run_other, run_skip, idle-step}
-use borrow.Author.Tests.{not-true, not-false}
+use Prim.Native.Nat.{ℕ, ◌-◌, ◌≤◌, ◌<◌}
+use Rattle.call_reclaim_live.specs.Live.{in_seg}
+use Rattle.spec.specs.Drives.{view_of}
+use Rattle.mem_marks.specs.Marks.{Marks}
+use Rattle.call_reclaim_victim.specs.Waiting.{IdleBelow}
 use mathlib.Core.List.{List}
-use mathlib.Core.Path.{◌≡◌, ap, ◌∙◌}
-use native.Mathlib.Omega.{arith}
+use mathlib.Core.Path.{◌≡◌}
 use Rattle.call_reclaim_victim.proofs.idle_run.Given as goal
 
 abbrev pub invariant-loop-q : goal.invariant-loop-q

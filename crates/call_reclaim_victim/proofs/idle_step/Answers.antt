@@ -3,7 +3,6 @@ use Rattle.spec.specs.Memory.{state_of}
 use Rattle.spec.specs.Drives.{View, view_of}
 use Rattle.call_reclaim_victim.specs.Waiting.{step_odd, step_kept, step-flying, step_new}
 use Prim.Native.Nat.{ℕ, min}
-use borrow.Author.Rules.{rules}
 use mathlib.Core.List.{List}
 use mathlib.Core.Path.{refl, sym, ap, ◌∙◌}
 use Rattle.call_reclaim_victim.proofs.idle_step.Goals as goal

@@ -1,10 +1,10 @@
 -- `idle_windows`: found is right for the live blocks below first; a turn marks the next window and goes over its zones. Assumes nothing.
 use Rattle.spec.specs.Memory.{state_of}
-use Prim.Native.Nat.{ℕ, ◌-◌, ◌*◌, ◌≤◌}
+use Prim.Native.Nat.{ℕ, ◌*◌}
 use Rattle.call_reclaim_live.specs.Live.{window_nearer}
 use Rattle.spec.specs.Drives.{View, view_of}
 use Rattle.spec.specs.Params.{capacity, addresses_len}
-use Rattle.call_reclaim_victim.specs.Waiting.{IdleBelow, waiting-at, waiting_none}
+use Rattle.call_reclaim_victim.specs.Waiting.{waiting-at, waiting_none}
 use lib.ListN.{length}
 use mathlib.Core.List.{List}
 use mathlib.Core.Path.{◌≡◌, refl, ◌∙◌}

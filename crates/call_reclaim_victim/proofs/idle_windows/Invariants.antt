@@ -1,14 +1,11 @@
 -- `idle_windows`: found is right for the live blocks below first; a turn marks the next window and goes over its zones. Assumes nothing.
 use Rattle.spec.specs.Memory.{state_of}
-use Prim.Native.Nat.{ℕ, ◌-◌, ◌*◌, ◌≤◌}
-use Rattle.call_reclaim_live.specs.Live.{window_nearer}
-use Rattle.spec.specs.Drives.{View, view_of}
-use Rattle.spec.specs.Params.{capacity, addresses_len}
-use Rattle.call_reclaim_victim.specs.Waiting.{IdleBelow, waiting-at, waiting_none}
+use Prim.Native.Nat.{ℕ, ◌-◌, ◌≤◌}
+use Rattle.spec.specs.Drives.{view_of}
+use Rattle.call_reclaim_victim.specs.Waiting.{IdleBelow}
 use lib.ListN.{length}
 use mathlib.Core.List.{List}
-use mathlib.Core.Path.{◌≡◌, refl, ◌∙◌}
-use native.Mathlib.Omega.{arith}
+use mathlib.Core.Path.{◌≡◌}
 use Rattle.call_reclaim_victim.proofs.idle_windows.Given as goal
 
 abbrev pub invariant-loop-first : goal.invariant-loop-first

@@ -1,12 +1,11 @@
 -- `idle_zones`: at is the first place of zone t, and found is right below from; a turn goes over zone t, whose places are all of one segment or none. Assumes nothing.
 use Rattle.spec.specs.Memory.{state_of}
-use Prim.Native.Nat.{ℕ, ◌+◌, ◌-◌, ◌*◌, ◌/◌, min, max, ◌≤◌, ◌<◌}
+use Prim.Native.Nat.{ℕ, ◌+◌, ◌*◌, ◌/◌, ◌≤◌, ◌<◌}
 use Rattle.call_reclaim_live.specs.Live.{numbered, nearer, places_high, live_zone_at, live_zone_begins, zone_within, owned_places}
 use Rattle.spec.specs.Drives.{View, view_of}
 use Rattle.spec.specs.Params.{capacity}
 use Rattle.law_basic.specs.Geometry.{ranged, zones_all}
-use Rattle.mem_marks.specs.Marks.{Marks}
-use Rattle.call_reclaim_victim.specs.Waiting.{IdleBelow, waiting-at}
+use Rattle.call_reclaim_victim.specs.Waiting.{waiting-at}
 use lib.Dec.{eqb}
 use lib.ListN.{get_or}
 use mathlib.Core.List.{List}

@@ -1,18 +1,11 @@
 -- `idle_zones`: at is the first place of zone t, and found is right below from; a turn goes over zone t, whose places are all of one segment or none. Assumes nothing.
 use Rattle.spec.specs.Memory.{state_of}
-use Prim.Native.Nat.{ℕ, ◌+◌, ◌-◌, ◌*◌, ◌/◌, min, max, ◌≤◌, ◌<◌}
-use Rattle.call_reclaim_live.specs.Live.{numbered, nearer, places_high, live_zone_at, live_zone_begins, zone_within, owned_places}
-use Rattle.spec.specs.Drives.{View, view_of}
-use Rattle.spec.specs.Params.{capacity}
-use Rattle.law_basic.specs.Geometry.{ranged, zones_all}
+use Prim.Native.Nat.{ℕ, ◌+◌, ◌-◌, ◌*◌, min, max, ◌≤◌}
+use Rattle.spec.specs.Drives.{view_of}
 use Rattle.mem_marks.specs.Marks.{Marks}
-use Rattle.call_reclaim_victim.specs.Waiting.{IdleBelow, waiting-at}
-use lib.Dec.{eqb}
-use lib.ListN.{get_or}
+use Rattle.call_reclaim_victim.specs.Waiting.{IdleBelow}
 use mathlib.Core.List.{List}
-use mathlib.Core.Path.{◌≡◌, sym, ap, ◌∙◌}
-use native.Mathlib.Nat.{zero-mul}
-use native.Mathlib.Omega.{arith}
+use mathlib.Core.Path.{◌≡◌}
 use Rattle.call_reclaim_victim.proofs.idle_zones.Given as goal
 
 abbrev pub invariant-loop-at : goal.invariant-loop-at

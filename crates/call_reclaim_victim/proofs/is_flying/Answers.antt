@@ -5,7 +5,6 @@ use Rattle.spec.specs.Params.{place_drive}
 use Rattle.disk_records.specs.Record.{rec_val}
 use Rattle.law_basic.specs.Segs.{low_here}
 use Rattle.call_reclaim_victim.specs.Waiting.{flying_is, data_there}
-use borrow.Author.Rules.{rules}
 use mathlib.Core.Path.{◌∙◌}
 use Rattle.call_reclaim_victim.proofs.is_flying.Goals as goal
 

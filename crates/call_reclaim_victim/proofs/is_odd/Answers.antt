@@ -1,8 +1,6 @@
 -- `is_odd`: block 0 is a header (`odd_low`); from 1 on the place is odd just when its block is above S (`odd_high`). Assumes nothing.
 use Prim.Native.Nat.{ℕ}
-use Rattle.law_basic.specs.Geometry.{place_block_lem}
 use Rattle.call_reclaim_victim.specs.Waiting.{odd_low, odd_high}
-use borrow.Author.Rules.{rules}
 use lib.Dec.{ltb}
 use mathlib.Core.Path.{sym, ap, ◌∙◌}
 use native.Mathlib.Omega.{arith}

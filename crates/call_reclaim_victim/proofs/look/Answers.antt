@@ -8,7 +8,6 @@ use Rattle.law_drives.specs.Members.{none_in, in_below}
 use Rattle.call_reclaim_live.specs.Least.{victim_nobody}
 use Rattle.call_reclaim_live.specs.Owners.{owners_rows-low, flags_told, fitted, owners_shown}
 use Rattle.call_reclaim_victim.specs.Looked.{looked_none}
-use borrow.Author.Rules.{rules}
 use borrow.Author.Tests.{not-true}
 use lib.ListN.{get_or, length-replicate, get_or-replicate}
 use mathlib.Core.Bool.{Bool, false}

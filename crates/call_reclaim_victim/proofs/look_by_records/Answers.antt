@@ -13,7 +13,6 @@ use Rattle.mem_tables.specs.Tables.{count-le}
 use Rattle.call_reclaim_victim.specs.Outside.{is_outside, outside-count}
 use Rattle.call_reclaim_victim.specs.Vouched.{Vouched, chosen_of, looked_empty, looked_seen}
 use Rattle.call_reclaim_victim.specs.declared.Told.{Told}
-use borrow.Author.Rules.{rules}
 use lib.Dec.{eqb}
 use lib.ListN.{length, get_or, replicate, length-replicate, get_or-replicate}
 use mathlib.Core.Bool.{true, false, not}

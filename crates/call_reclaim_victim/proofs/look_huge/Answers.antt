@@ -1,5 +1,4 @@
 -- `look_huge`: the marks are 262144 bytes: as many as `look_with` asks (`marks_long`). Assumes nothing.
-use borrow.Author.Rules.{rules}
 use native.Mathlib.Omega.{arith}
 use Rattle.call_reclaim_victim.specs.Looked.{marks_long}
 use Rattle.call_reclaim_victim.proofs.look_huge.Goals as goal

@@ -14,7 +14,6 @@ use Rattle.mem_tables.specs.Tables.{count-le}
 use Rattle.call_reclaim_victim.specs.Looked.{looked_none, looked_some}
 use Rattle.call_reclaim_victim.specs.Outside.{outside-count}
 use Rattle.call_reclaim_victim.specs.Waiting.{IdleBelow}
-use borrow.Author.Rules.{rules}
 use lib.Dec.{eqb}
 use lib.ListN.{length, get_or, replicate, length-replicate, get_or-replicate}
 use mathlib.Core.Bool.{not}

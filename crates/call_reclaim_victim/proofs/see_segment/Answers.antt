@@ -1,7 +1,7 @@
 -- `see_segment`: what is found vouches for the drives below d, with at most 65535 * d; a turn skips to its zone, sees it and skips on. Assumes nothing.
 -- all drives before d are seen
 use Rattle.spec.specs.Memory.{state_of}
-use Prim.Native.Nat.{ℕ, ◌+◌, ◌-◌, ◌*◌, ◌≤◌}
+use Prim.Native.Nat.{ℕ, ◌+◌}
 use Rattle.spec.specs.Drives.{View, view_of, zone_on}
 use Rattle.spec.specs.Params.{place_of}
 use Rattle.law_basic.specs.Geometry.{ranged}

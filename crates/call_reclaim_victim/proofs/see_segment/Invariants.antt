@@ -1,17 +1,11 @@
 -- `see_segment`: what is found vouches for the drives below d, with at most 65535 * d; a turn skips to its zone, sees it and skips on. Assumes nothing.
 -- all drives before d are seen
 use Rattle.spec.specs.Memory.{state_of}
-use Prim.Native.Nat.{ℕ, ◌+◌, ◌-◌, ◌*◌, ◌≤◌}
-use Rattle.spec.specs.Drives.{View, view_of, zone_on}
+use Prim.Native.Nat.{ℕ, ◌-◌, ◌*◌, ◌≤◌}
+use Rattle.spec.specs.Drives.{view_of}
 use Rattle.spec.specs.Params.{place_of}
-use Rattle.law_basic.specs.Geometry.{ranged}
-use Rattle.law_basic.specs.Segs.{low_here}
-use Rattle.call_reclaim_victim.specs.Vouched.{Vouched, vouched_none, vouched_skip}
-use Rattle.call_reclaim_victim.specs.declared.Seen.{Seen}
-use Rattle.call_reclaim_records.specs.Vouch.{drive_first, drive_last, drive_place_low, next_drive_place}
+use Rattle.call_reclaim_victim.specs.Vouched.{Vouched}
 use mathlib.Core.List.{List}
-use mathlib.Core.Path.{◌≡◌, refl, sym, ap, ◌∙◌, subst}
-use native.Mathlib.Omega.{arith}
 use Rattle.call_reclaim_victim.proofs.see_segment.Given as goal
 
 abbrev pub invariant-loop-d : goal.invariant-loop-d

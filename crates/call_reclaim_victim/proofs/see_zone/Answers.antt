@@ -1,6 +1,6 @@
 -- `see_zone`: if what came vouches for the places below at, found does for those below at + o, with at most o more; a turn sees block o. Assumes nothing.
 use Rattle.spec.specs.Memory.{state_of}
-use Prim.Native.Nat.{ℕ, ◌+◌, ◌-◌, ◌≤◌, ◌<◌}
+use Prim.Native.Nat.{ℕ, ◌+◌, ◌<◌}
 use Rattle.spec.specs.Drives.{View, view_of, zone_on}
 use Rattle.spec.specs.Params.{place_of}
 use Rattle.law_basic.specs.Geometry.{ranged, data_below}

@@ -1,15 +1,9 @@
 -- `see_zone`: if what came vouches for the places below at, found does for those below at + o, with at most o more; a turn sees block o. Assumes nothing.
 use Rattle.spec.specs.Memory.{state_of}
-use Prim.Native.Nat.{ℕ, ◌+◌, ◌-◌, ◌≤◌, ◌<◌}
-use Rattle.spec.specs.Drives.{View, view_of, zone_on}
-use Rattle.spec.specs.Params.{place_of}
-use Rattle.law_basic.specs.Geometry.{ranged, data_below}
-use Rattle.law_basic.specs.Segs.{low_here}
+use Prim.Native.Nat.{ℕ, ◌+◌, ◌-◌, ◌≤◌}
+use Rattle.spec.specs.Drives.{view_of}
 use Rattle.call_reclaim_victim.specs.Vouched.{Vouched}
 use mathlib.Core.List.{List}
-use mathlib.Core.Path.{◌≡◌, sym, ap, ap₂, ◌∙◌, subst}
-use native.Mathlib.Nat.{add-zero}
-use native.Mathlib.Omega.{arith}
 use Rattle.call_reclaim_victim.proofs.see_zone.Given as goal
 
 abbrev pub invariant-loop-o : goal.invariant-loop-o

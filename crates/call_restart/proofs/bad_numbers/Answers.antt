@@ -1,7 +1,6 @@
 -- `bad_numbers`: out of range makes the or true; else a drive below N is named (`names_low`), and above it only 255 is good (`names_high`). Assumes nothing.
 use Rattle.spec.specs.Restart.{names_drive}
 use Rattle.call_restart.specs.Order.{names_low, names_high}
-use borrow.Author.Rules.{rules}
 use borrow.Author.Tests.{not-true, not-false}
 use mathlib.Core.Bool.{Bool, not, ◌||◌}
 use mathlib.Core.Path.{sym, ap, ap₂, ◌∙◌}

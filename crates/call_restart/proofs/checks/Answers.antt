@@ -13,7 +13,6 @@ use Rattle.law_drives.specs.Tests.{or_first}
 use Rattle.law_views.specs.Alike.{seen_offline}
 use Rattle.law_views.specs.Views.{seen}
 use Rattle.mem_calls.specs.Listed.{list_rule_of}
-use borrow.Author.Rules.{rules}
 use borrow.Author.Tests.{not-true, not-false}
 use mathlib.Core.Bool.{not}
 use mathlib.Core.Path.{sym, ap, ◌∙◌}

@@ -1,5 +1,4 @@
 -- `recover`: all zones of a box have room in the arrays. Assumes nothing.
-use borrow.Author.Rules.{rules}
 use Rattle.law_basic.specs.Geometry.{ranged, prod_le}
 use native.Mathlib.Omega.{arith}
 use Rattle.call_restart.proofs.recover.Goals as goal

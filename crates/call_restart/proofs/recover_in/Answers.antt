@@ -3,7 +3,6 @@ use Rattle.mem_calls.specs.Left.{checked}
 use Rattle.spec.specs.Drives.{Disk, mk_disk}
 use Rattle.spec.specs.Memory.{mk_memory}
 use Rattle.call_restart.specs.Ends.{ends_restart_refused, ends_restart_cut, ends_restart_done}
-use borrow.Author.Rules.{rules}
 use mathlib.Core.Path.{ap, ◌∙◌}
 use Rattle.call_restart.proofs.recover_in.Goals as goal
 

@@ -3,7 +3,6 @@ use Rattle.spec.specs.Drives.{view_of}
 use Rattle.spec.specs.Segments.{segments}
 use Rattle.recover_check.specs.Mends.{no_faults}
 use Rattle.call_restart.specs.Order.{segments-fail, zone_none, gone_plain, here_plain, plain_pass, restart_serial_fails, restart_zones_fail, restart_zones_suffice}
-use borrow.Author.Rules.{rules}
 use borrow.Author.Tests.{not-true, not-false}
 use mathlib.Core.Path.{sym, ◌∙◌}
 use native.Mathlib.Omega.{arith}

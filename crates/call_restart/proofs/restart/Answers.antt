@@ -12,7 +12,6 @@ use Rattle.call_restart.specs.Order.{restart_front_passed, names_here}
 use Rattle.law_drives.specs.Lengths.{lengths_of, whole_of}
 use Rattle.law_drives.specs.Segs.{Here}
 use Rattle.law_views.specs.Views.{seen}
-use borrow.Author.Rules.{rules}
 use mathlib.Core.List.{[]}
 use mathlib.Core.Path.{◌≡◌, sym, ap, ◌∙◌, subst}
 use Rattle.law_drives.specs.Masks.{only-named}

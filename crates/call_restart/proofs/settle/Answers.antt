@@ -9,7 +9,6 @@ use Rattle.call_restart.specs.Ends.{settles_refused, is_sane, settles_stored}
 use Rattle.call_restart.specs.Order.{rest_checks, rested, zone_all}
 use Rattle.law_drives.specs.Image.{shaped_of}
 use Rattle.law_views.specs.Views.{seen}
-use borrow.Author.Rules.{rules}
 use mathlib.Core.Path.{◌≡◌, sym, ap, ◌∙◌}
 use native.Mathlib.Omega.{arith}
 use Rattle.call_restart.proofs.settle.Goals as goal

@@ -10,7 +10,6 @@ use Rattle.disk_gather.specs.Flags.{Keeps, FlagsRows, Serials}
 use Rattle.call_restart.specs.Ends.{missing_stores}
 use Rattle.law_views.specs.Views.{seen}
 use Rattle.disk_zones.specs.Made.{Storing, storing_none}
-use borrow.Author.Rules.{rules}
 use mathlib.Core.Bool.{false}
 use mathlib.Core.List.{List}
 use mathlib.Core.Path.{sym, ◌∙◌, subst}

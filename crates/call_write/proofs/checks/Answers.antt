@@ -9,7 +9,6 @@ use Rattle.spec.specs.declared.Answer.{Answer}
 use Rattle.call_write.specs.Order.{write_from, write_range_fails, write_range_passes, write_lengths_fail, write_block_fails, write_lengths_pass, write_list_fails, write_list_passes}
 use Rattle.call_write.specs.Order.{write_missing_fails, write_missing_passes, write_address_fails, write_address_passes}
 use Rattle.call_write.specs.Ready.{lent_long_lem}
-use borrow.Author.Rules.{rules}
 use borrow.Author.Tests.{not-true, not-false}
 use Prim.Native.Nat.{ℕ}
 use mathlib.Core.Bool.{true}

@@ -5,7 +5,6 @@ use Rattle.spec.specs.Counts.{a_stamp}
 use Rattle.spec.specs.declared.Answer.TheVariants.{Sent}
 use mathlib.Core.Path.{◌≡◌, ap, ◌∙◌}
 use native.Mathlib.Numerals.{add-one}
-use borrow.Author.Rules.{rules}
 use Rattle.call_write.proofs.plan.Goals as goal
 
 pub returns : goal.returns

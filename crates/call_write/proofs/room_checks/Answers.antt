@@ -12,7 +12,6 @@ use Rattle.call_filling.specs.declared.Aim.{Aim}
 use Rattle.law_views.specs.Views.{seen}
 use Rattle.call_write.specs.Order.{write_from, stamp_fails, write_serial_fails, counts_pass, write_zones_fail, write_zones_suffice, wait_fails, wait_passes, write_state_fails}
 use Rattle.call_write.specs.Order.{write_state_passes}
-use borrow.Author.Rules.{rules}
 use borrow.Author.Tests.{not-true, not-false}
 use lib.ListN.{length}
 use mathlib.Core.Bool.{cond}

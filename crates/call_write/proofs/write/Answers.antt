@@ -20,7 +20,6 @@ use Rattle.call_write.specs.Ready.{write_ready, write_refusal}
 use lib.Arith.{lt_of_le-ne}
 use mathlib.Core.Path.{◌≡◌, sym, ap, ◌∙◌, subst}
 use native.Mathlib.Omega.{arith}
-use borrow.Author.Rules.{rules}
 use Rattle.call_write.proofs.write.Goals as goal
 use Rattle.call_write.proofs.write.Lts
 use Rattle.call_write.proofs.write.Reads

@@ -1,8 +1,6 @@
 -- `clear`: the part from 0 of the whole length is all of dst, and that many zeros replace it. Assumes nothing.
 use mathlib.Core.Path.{◌∙◌}
-use borrow.Author.Rules.{rules}
 use lib.ListN.{length, replicate, length-replicate}
-use Rattle.spec.specs.Engine.Call.{close}
 use Rattle.law_basic.specs.Splice.{splice_all}
 use Rattle.disk_blocks.proofs.clear.Goals as goal
 

@@ -1,10 +1,8 @@
 -- `clear_part`: after i turns the first i bytes from at are zero and the rest is as it came; one turn appends one zero. Assumes nothing.
 use mathlib.Core.Path.{◌≡◌, refl, sym}
-use Prim.Native.Nat.{◌+◌, ◌-◌, ◌≤◌}
+use Prim.Native.Nat.{◌+◌}
 use native.Mathlib.Omega.{arith}
-use lib.ListN.{length, length-set, replicate, length-replicate}
-use Rattle.spec.specs.Bytes.{splice}
-use Rattle.spec.specs.Engine.Call.{close}
+use lib.ListN.{length-set, replicate, length-replicate}
 use Rattle.law_basic.specs.Ranges.{replicate-snoc}
 use Rattle.law_basic.specs.Splice.{splice-nil}
 use Rattle.law_basic.specs.Turns.{turn}

@@ -1,7 +1,5 @@
 -- `copy`: dst and src are equally long, so that the splice at 0 is all of src. Assumes nothing.
 use mathlib.Core.Path.{◌∙◌}
-use borrow.Author.Rules.{rules}
-use Rattle.spec.specs.Engine.Call.{close}
 use Rattle.law_basic.specs.Splice.{splice_all}
 use Rattle.disk_blocks.proofs.copy.Goals as goal
 

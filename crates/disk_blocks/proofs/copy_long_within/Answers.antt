@@ -1,10 +1,9 @@
 -- `copy_long_within`: after i turns the first i bytes from b stand at a too; byte b + i is still as it came, since the two parts lie apart. Assumes nothing.
 use mathlib.Core.Path.{◌≡◌, refl, sym, ap, ◌∙◌}
-use Prim.Native.Nat.{◌+◌, ◌-◌, ◌≤◌}
+use Prim.Native.Nat.{◌+◌}
 use native.Mathlib.Omega.{arith}
 use lib.ListN.{length, get_or, set, length-set}
-use Rattle.spec.specs.Bytes.{part, splice}
-use Rattle.spec.specs.Engine.Call.{close}
+use Rattle.spec.specs.Bytes.{part}
 use Rattle.law_basic.specs.Splice.{length_part, splice-nil}
 use Rattle.law_basic.specs.Turns.{still_apart, turn, part-more}
 use Rattle.disk_blocks.proofs.copy_long_within.Goals as goal

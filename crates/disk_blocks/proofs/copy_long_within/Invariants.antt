@@ -1,12 +1,8 @@
 -- `copy_long_within`: after i turns the first i bytes from b stand at a too; byte b + i is still as it came, since the two parts lie apart. Assumes nothing.
-use mathlib.Core.Path.{◌≡◌, refl, sym, ap, ◌∙◌}
-use Prim.Native.Nat.{◌+◌, ◌-◌, ◌≤◌}
-use native.Mathlib.Omega.{arith}
-use lib.ListN.{length, get_or, set, length-set}
+use mathlib.Core.Path.{◌≡◌}
+use Prim.Native.Nat.{◌-◌, ◌≤◌}
+use lib.ListN.{length}
 use Rattle.spec.specs.Bytes.{part, splice}
-use Rattle.spec.specs.Engine.Call.{close}
-use Rattle.law_basic.specs.Splice.{length_part, splice-nil}
-use Rattle.law_basic.specs.Turns.{still_apart, turn, part-more}
 use Rattle.disk_blocks.proofs.copy_long_within.Given as goal
 
 abbrev pub invariant-loop-i : goal.invariant-loop-i

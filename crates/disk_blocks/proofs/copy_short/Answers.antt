@@ -1,6 +1,6 @@
 -- `copy_short`: the first loop takes i bytes of src into the array, the second puts j of them into dst; both end at the length of src. Assumes nothing.
 use mathlib.Core.Path.{◌≡◌, refl, sym, ap, ◌∙◌}
-use Prim.Native.Nat.{ℕ, ◌+◌, ◌-◌, ◌≤◌}
+use Prim.Native.Nat.{ℕ, ◌+◌}
 use native.Mathlib.Omega.{arith}
 use lib.Seq.{length-take-le, take-length}
 use lib.ListN.{length, get_or, take, length-set}

@@ -1,13 +1,8 @@
 -- `copy_short`: the first loop takes i bytes of src into the array, the second puts j of them into dst; both end at the length of src. Assumes nothing.
-use mathlib.Core.Path.{◌≡◌, refl, sym, ap, ◌∙◌}
-use Prim.Native.Nat.{ℕ, ◌+◌, ◌-◌, ◌≤◌}
-use native.Mathlib.Omega.{arith}
-use lib.Seq.{length-take-le, take-length}
-use lib.ListN.{length, get_or, take, length-set}
+use mathlib.Core.Path.{◌≡◌}
+use Prim.Native.Nat.{◌-◌, ◌≤◌}
+use lib.ListN.{length, take}
 use Rattle.spec.specs.Bytes.{splice}
-use Rattle.law_basic.specs.Turns.{turn, take_more}
-use Rattle.law_basic.specs.Splice.{splice-nil}
-use Rattle.disk_blocks.specs.Held.{held_more}
 use Rattle.disk_blocks.proofs.copy_short.Given as goal
 
 abbrev pub invariant-loop-i : goal.invariant-loop-i

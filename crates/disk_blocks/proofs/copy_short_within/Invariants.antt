@@ -1,13 +1,8 @@
 -- `copy_short_within`: the first loop takes i bytes from b into the array, the second puts j of the array at a; both end at n. Assumes nothing.
-use mathlib.Core.Path.{◌≡◌, refl, sym, ap, ◌∙◌}
-use Prim.Native.Nat.{ℕ, ◌+◌, ◌-◌, ◌≤◌}
-use native.Mathlib.Omega.{arith}
-use lib.Seq.{length-take-le}
-use lib.ListN.{length, get_or, take, length-set}
+use mathlib.Core.Path.{◌≡◌}
+use Prim.Native.Nat.{◌-◌, ◌≤◌}
+use lib.ListN.{length, take}
 use Rattle.spec.specs.Bytes.{part, splice}
-use Rattle.law_basic.specs.Turns.{turn, take_more, part-more}
-use Rattle.law_basic.specs.Splice.{splice-nil}
-use Rattle.disk_blocks.specs.Held.{held_more}
 use Rattle.disk_blocks.proofs.copy_short_within.Given as goal
 
 abbrev pub invariant-loop-i : goal.invariant-loop-i

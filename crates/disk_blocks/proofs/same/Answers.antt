@@ -1,10 +1,8 @@
 -- `same`: off 0: a equals b iff what follows i does; else they differ. One turn adds the bits in which bytes i differ. Unequal lengths end it. Assumes nothing.
 use mathlib.Core.Path.{refl, sym}
-use Prim.Native.Nat.{◌-◌}
 use native.Mathlib.Omega.{arith}
-use lib.ListN.{length}
 use Rattle.law_basic.specs.Ranges.{same_list_long}
-use Rattle.disk_blocks.specs.Same.{Comparing, comparing_next, compared}
+use Rattle.disk_blocks.specs.Same.{comparing_next, compared}
 use Rattle.disk_blocks.proofs.same.Goals as goal
 
 pub returns-then-a-b : goal.returns-then-a-b

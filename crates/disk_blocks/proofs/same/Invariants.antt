@@ -1,10 +1,7 @@
 -- `same`: off 0: a equals b iff what follows i does; else they differ. One turn adds the bits in which bytes i differ. Unequal lengths end it. Assumes nothing.
-use mathlib.Core.Path.{refl, sym}
 use Prim.Native.Nat.{◌-◌}
-use native.Mathlib.Omega.{arith}
 use lib.ListN.{length}
-use Rattle.law_basic.specs.Ranges.{same_list_long}
-use Rattle.disk_blocks.specs.Same.{Comparing, comparing_next, compared}
+use Rattle.disk_blocks.specs.Same.{Comparing}
 use Rattle.disk_blocks.proofs.same.Given as goal
 
 abbrev pub invariant-loop-i : goal.invariant-loop-i

@@ -1,11 +1,10 @@
 -- `xor_bytes_within`: the first i bytes from a are exclusive-ored with those from b; bytes a + i and b + i are still as they came. Assumes nothing.
 use mathlib.Core.Path.{◌≡◌, refl, sym, ap₂, ◌∙◌}
-use Prim.Native.Nat.{ℕ, ◌+◌, ◌-◌, ◌≤◌}
+use Prim.Native.Nat.{ℕ, ◌+◌}
 use native.Mathlib.Omega.{arith}
 use lib.ListN.{length, get_or, set, length-set}
 use lib.Bits.{bit_xor}
-use Rattle.spec.specs.Bytes.{part, splice, xors}
-use Rattle.spec.specs.Engine.Call.{close}
+use Rattle.spec.specs.Bytes.{part, xors}
 use Rattle.law_basic.specs.Splice.{splice-nil}
 use Rattle.law_basic.specs.Turns.{still_here, still_apart, turn, length-xors-part}
 use Rattle.law_basic.specs.Xor.{xors-part-suc}

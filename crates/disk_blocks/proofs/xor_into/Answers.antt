@@ -3,10 +3,8 @@ use mathlib.Core.Path.{◌≡◌, ap, ◌∙◌}
 use mathlib.Core.List.{List}
 use Prim.Native.Nat.{ℕ}
 use native.Mathlib.Omega.{arith}
-use borrow.Author.Rules.{rules}
 use lib.ListN.{length}
 use Rattle.spec.specs.Bytes.{part, splice, xors}
-use Rattle.spec.specs.Engine.Call.{close}
 use Rattle.law_basic.specs.Splice.{part-all, splice_all}
 use Rattle.law_basic.specs.Xor.{length-xors}
 use Rattle.disk_blocks.proofs.xor_into.Goals as goal

@@ -1,13 +1,8 @@
 -- `xor_part`: the first i bytes from at are exclusive-ored and those ahead are as they came; a piece adds 64 bytes, the last call the rest. Assumes nothing.
-use mathlib.Core.Path.{◌≡◌, refl, sym, ap, ◌∙◌}
-use mathlib.Core.List.{List}
-use Prim.Native.Nat.{ℕ, ◌+◌, ◌-◌, ◌≤◌}
-use native.Mathlib.Omega.{arith}
-use native.Mathlib.Nat.{zero-add}
+use mathlib.Core.Path.{◌≡◌}
+use Prim.Native.Nat.{◌-◌, ◌≤◌}
 use lib.ListN.{length}
 use Rattle.spec.specs.Bytes.{part, splice, xors}
-use Rattle.law_basic.specs.Splice.{length_part, part-all, splice-nil}
-use Rattle.disk_blocks.specs.Held.{still_ahead, piece_more}
 use Rattle.disk_blocks.proofs.xor_part.Given as goal
 
 abbrev pub invariant-loop-i : goal.invariant-loop-i

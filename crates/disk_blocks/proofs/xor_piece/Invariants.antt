@@ -1,15 +1,8 @@
 -- `xor_piece`: the first loop puts i exclusive-ored bytes into the array, the second puts j of the array into dst; both end at 64. Assumes nothing.
-use mathlib.Core.Path.{◌≡◌, refl, sym, ap, ◌∙◌}
-use Prim.Native.Nat.{ℕ, ◌+◌, ◌-◌, ◌≤◌}
-use native.Mathlib.Omega.{arith}
-use lib.Seq.{length-take-le}
-use lib.ListN.{length, get_or, take, length-set}
-use lib.Bits.{bit_xor}
+use mathlib.Core.Path.{◌≡◌}
+use Prim.Native.Nat.{◌-◌, ◌≤◌}
+use lib.ListN.{length, take}
 use Rattle.spec.specs.Bytes.{part, splice, xors}
-use Rattle.law_basic.specs.Turns.{turn, take_more}
-use Rattle.law_basic.specs.Xor.{xors-part-suc}
-use Rattle.law_basic.specs.Splice.{splice-nil}
-use Rattle.disk_blocks.specs.Held.{held_more}
 use Rattle.disk_blocks.proofs.xor_piece.Given as goal
 
 abbrev pub invariant-loop-i : goal.invariant-loop-i

@@ -1,6 +1,6 @@
 -- `xor_piece_within`: the first loop puts i exclusive-ored bytes into the array, the second puts j of the array at a; both end at 64. Assumes nothing.
 use mathlib.Core.Path.{◌≡◌, refl, sym, ap, ◌∙◌}
-use Prim.Native.Nat.{ℕ, ◌+◌, ◌-◌, ◌≤◌}
+use Prim.Native.Nat.{ℕ, ◌+◌}
 use native.Mathlib.Omega.{arith}
 use lib.Seq.{length-take-le}
 use lib.ListN.{length, get_or, take, length-set}

@@ -1,9 +1,8 @@
 -- `xor_within`: the first i bytes from a are exclusive-ored with those from b; what lies ahead at a and at b is as it came, since the parts lie apart;
 -- a piece adds 64 bytes, the last call the rest. Assumes nothing.
 use mathlib.Core.Path.{◌≡◌, refl, sym, ap, ◌∙◌}
-use Prim.Native.Nat.{ℕ, ◌+◌, ◌-◌, ◌≤◌}
+use Prim.Native.Nat.{ℕ, ◌+◌, ◌-◌}
 use native.Mathlib.Omega.{arith}
-use lib.ListN.{length}
 use Rattle.spec.specs.Bytes.{part, splice, xors}
 use Rattle.law_basic.specs.Splice.{splice-nil}
 use Rattle.disk_blocks.specs.Held.{still_ahead, piece_more, still_beside, apart_rest}

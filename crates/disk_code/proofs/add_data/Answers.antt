@@ -1,12 +1,10 @@
 -- `add_data`: after the turns up to k the parity's place holds the exclusive or of data blocks 0 to k - 1 as they came, all else stays;
 -- one turn adds data block k, which lies apart from that place. At k = data count it is the parity. Assumes nothing.
 use mathlib.Core.Path.{◌≡◌, refl, sym, ap, ap₂, ◌∙◌}
-use Prim.Native.Nat.{ℕ, ◌-◌, ◌≤◌, ◌<◌}
+use Prim.Native.Nat.{ℕ, ◌<◌}
 use native.Mathlib.Omega.{arith}
-use lib.ListN.{length}
 use Rattle.disk_code.specs.Slots.{slots_differ, data_parity, parity-start, parity_turn, parity_done}
 use Rattle.spec.specs.Bytes.{part, splice, xors}
-use Rattle.spec.specs.Engine.Call.{close}
 use Rattle.spec.specs.Layout.{parity_drive, data_drive}
 use Rattle.spec.specs.Memory.{slot_byte}
 use Rattle.spec.specs.Params.{data_count}

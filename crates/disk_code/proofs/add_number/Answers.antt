@@ -1,7 +1,6 @@
 -- `add_number`: a number that is left out adds nothing. Assumes nothing.
 use mathlib.Core.Path.{sym, ap, ◌∙◌}
 use mathlib.Core.Bool.{Bool, cond}
-use borrow.Author.Rules.{rules}
 use lib.Bits.{bit_xor}
 use lib.ListN.{get_or}
 use Rattle.disk_code.proofs.add_number.Goals as goal

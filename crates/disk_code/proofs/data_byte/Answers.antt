@@ -1,7 +1,5 @@
 -- `data_byte`: `slot_byte` of the drive that `data_drive` says; the block there ends inside the in-flight buffer. Assumes nothing.
 use mathlib.Core.Path.{ap, ◌∙◌}
-use borrow.Author.Rules.{rules}
-use Rattle.spec.specs.Engine.Call.{close}
 use Rattle.spec.specs.Memory.{slot_byte}
 use Rattle.disk_code.proofs.data_byte.Goals as goal
 

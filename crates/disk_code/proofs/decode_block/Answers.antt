@@ -1,6 +1,5 @@
 -- `decode_block`: the fold leaves out the missing drives. Assumes nothing.
 use native.Mathlib.Omega.{arith}
-use borrow.Author.Rules.{rules}
 use Rattle.spec.specs.Params.{drives_of, present}
 use Rattle.spec.specs.Parity.{decode_block}
 use Rattle.law_basic.specs.Geometry.{ranged}

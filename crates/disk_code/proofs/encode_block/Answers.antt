@@ -3,7 +3,6 @@ use mathlib.Core.Path.{ap, ◌∙◌}
 use mathlib.Core.List.{List}
 use Prim.Native.Nat.{ℕ}
 use native.Mathlib.Omega.{arith}
-use borrow.Author.Rules.{rules}
 use Rattle.spec.specs.Bytes.{parity}
 use Rattle.spec.specs.Parity.{encode_block}
 use Rattle.disk_code.specs.Folds.{kept, parts_of, kept_none_out}

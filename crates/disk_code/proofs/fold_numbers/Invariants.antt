@@ -1,14 +1,10 @@
 -- `fold_numbers`: the sum is the exclusive or of the first k; a turn adds the next (`numbers_more`). Assumes nothing.
-use mathlib.Core.Path.{◌≡◌, sym, ap, ◌∙◌}
-use mathlib.Core.Bool.{cond}
+use mathlib.Core.Path.{◌≡◌}
 use mathlib.Core.List.{map}
-use Prim.Native.Nat.{ℕ, ◌-◌, ◌≤◌}
-use native.Mathlib.Omega.{arith}
-use lib.Bits.{bit_xor}
+use Prim.Native.Nat.{◌-◌, ◌≤◌}
 use lib.ListN.{get_or}
 use Rattle.spec.specs.Bytes.{xor_all}
-use Rattle.spec.specs.Lists.{is_in}
-use Rattle.disk_code.specs.Folds.{kept, numbers_none, numbers_more}
+use Rattle.disk_code.specs.Folds.{kept}
 use Rattle.disk_code.proofs.fold_numbers.Given as goal
 
 abbrev pub invariant-loop-k : goal.invariant-loop-k

@@ -2,9 +2,9 @@
 use mathlib.Core.Path.{◌≡◌, sym, ap, ◌∙◌}
 use mathlib.Core.Bool.{cond}
 use mathlib.Core.List.{List}
-use Prim.Native.Nat.{ℕ, ◌-◌, ◌≤◌}
+use Prim.Native.Nat.{ℕ}
 use native.Mathlib.Omega.{arith}
-use lib.ListN.{length, get_or, replicate}
+use lib.ListN.{get_or, replicate}
 use Rattle.spec.specs.Bytes.{part, xors, parity}
 use Rattle.spec.specs.Lists.{is_in}
 use Rattle.disk_code.specs.Folds.{kept, parts_of, blocks_none, blocks_more, parts_long}

@@ -1,13 +1,9 @@
 -- `fold_parts`: the block is the exclusive or of the first k parts, at first zeros; a turn adds the next (`blocks_more`). Assumes nothing.
-use mathlib.Core.Path.{◌≡◌, sym, ap, ◌∙◌}
-use mathlib.Core.Bool.{cond}
-use mathlib.Core.List.{List}
-use Prim.Native.Nat.{ℕ, ◌-◌, ◌≤◌}
-use native.Mathlib.Omega.{arith}
-use lib.ListN.{length, get_or, replicate}
-use Rattle.spec.specs.Bytes.{part, xors, parity}
-use Rattle.spec.specs.Lists.{is_in}
-use Rattle.disk_code.specs.Folds.{kept, parts_of, blocks_none, blocks_more, parts_long}
+use mathlib.Core.Path.{◌≡◌}
+use Prim.Native.Nat.{◌-◌, ◌≤◌}
+use lib.ListN.{length}
+use Rattle.spec.specs.Bytes.{parity}
+use Rattle.disk_code.specs.Folds.{kept, parts_of}
 use Rattle.disk_code.proofs.fold_parts.Given as goal
 
 abbrev pub invariant-loop-k : goal.invariant-loop-k

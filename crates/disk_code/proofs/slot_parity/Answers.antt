@@ -4,11 +4,9 @@ use mathlib.Core.Path.{◌≡◌, sym, ap, ap₂, ◌∙◌}
 use mathlib.Core.List.{List}
 use Prim.Native.Nat.{ℕ, ◌<◌}
 use native.Mathlib.Omega.{arith}
-use borrow.Author.Rules.{rules}
 use lib.ListN.{length}
 use Rattle.disk_code.specs.Slots.{slots_differ, parity_again, parity-copied}
 use Rattle.spec.specs.Bytes.{part, splice}
-use Rattle.spec.specs.Engine.Call.{close}
 use Rattle.spec.specs.Layout.{parity_drive, data_drive}
 use Rattle.spec.specs.Memory.{slot_byte, set_slot_parity}
 use Rattle.spec.specs.Params.{data_count}

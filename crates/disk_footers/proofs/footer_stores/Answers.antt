@@ -3,7 +3,6 @@ use mathlib.Core.Path.{sym, ap, ◌∙◌}
 use mathlib.Core.List.{List}
 use Prim.Native.Nat.{ℕ}
 use native.Mathlib.Omega.{arith}
-use borrow.Author.Rules.{rules}
 use Rattle.spec.specs.Drives.{Zone, Store, view_of, mk_disk, zone_at, store_disk, store_all}
 use Rattle.disk_zones.specs.Made.{made_of}
 use Rattle.disk_footers.specs.Laid.{feet_taken, feet_none, feet_count}

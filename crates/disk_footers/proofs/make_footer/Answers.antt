@@ -5,7 +5,6 @@ use mathlib.Core.List.{List, []}
 use Prim.Native.Nat.{ℕ, suc, ◌+◌, ◌-◌, ◌*◌, ◌≤◌, ◌<◌}
 use native.Mathlib.Omega.{arith}
 use native.Mathlib.Nat.{add_assoc, mul_comm}
-use borrow.Author.Rules.{rules}
 use lib.ListN.{length, get_or, take, drop, replicate}
 use Rattle.spec.specs.Bytes.{part, splice}
 use Rattle.spec.specs.Layout.{footer_block}

@@ -2,7 +2,6 @@
 use mathlib.Core.Path.{◌≡◌, ap}
 use Prim.Native.Nat.{ℕ, ◌*◌}
 use native.Mathlib.Omega.{arith}
-use borrow.Author.Rules.{rules}
 use Rattle.spec.specs.Params.{per_footer}
 use Rattle.law_basic.specs.Geometry.{ranged}
 use Rattle.disk_footers.specs.Feet.{footer_start}

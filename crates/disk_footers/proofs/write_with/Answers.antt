@@ -1,7 +1,7 @@
 -- `write_with`: after i turns laying the other n - i footers gives what laying all n at the start gives, and the zone's spares are as they came;
 -- one turn makes footer first + i from them and writes it at block at + i. Assumes nothing.
 use mathlib.Core.Path.{◌≡◌, refl, sym, ap, ◌∙◌}
-use Prim.Native.Nat.{ℕ, ◌+◌, ◌-◌}
+use Prim.Native.Nat.{ℕ, ◌+◌}
 use native.Mathlib.Omega.{arith}
 use lib.ListN.{length}
 use Rattle.spec.specs.Bytes.{splice}
@@ -9,7 +9,7 @@ use Rattle.spec.specs.Layout.{footer_block}
 use Rattle.spec.specs.Params.{unit_len}
 use Rattle.law_basic.specs.Geometry.{ranged, footers_high, capacity_high}
 use Rattle.disk_footers.specs.Feet.{spares_by, footer_by}
-use Rattle.disk_footers.specs.Laid.{Writing, writing_start, writing_turn, writing_done}
+use Rattle.disk_footers.specs.Laid.{writing_start, writing_turn, writing_done}
 use Rattle.disk_footers.proofs.write_with.Goals as goal
 
 pub loop-i-init : goal.loop-i-init

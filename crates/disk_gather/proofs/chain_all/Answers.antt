@@ -1,10 +1,9 @@
 -- `chain_all`: the first d drives have their index, and from d on nothing is entered. Assumes nothing.
 use mathlib.Core.Path.{◌≡◌, refl, subst, ◌∙◌}
-use Prim.Native.Nat.{ℕ, ◌-◌, ◌≤◌}
+use Prim.Native.Nat.{ℕ}
 use native.Mathlib.Omega.{arith}
-use lib.ListN.{length}
 use Rattle.spec.specs.Drives.{view_of}
-use Rattle.disk_gather.specs.Index.{ChainedTo, Blank}
+use Rattle.disk_gather.specs.Index.{ChainedTo}
 use Rattle.disk_gather.proofs.chain_all.Goals as goal
 
 pub loop-d-init : goal.loop-d-init

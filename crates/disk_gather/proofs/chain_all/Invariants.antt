@@ -1,7 +1,6 @@
 -- `chain_all`: the first d drives have their index, and from d on nothing is entered. Assumes nothing.
-use mathlib.Core.Path.{◌≡◌, refl, subst, ◌∙◌}
-use Prim.Native.Nat.{ℕ, ◌-◌, ◌≤◌}
-use native.Mathlib.Omega.{arith}
+use mathlib.Core.Path.{◌≡◌}
+use Prim.Native.Nat.{◌-◌, ◌≤◌}
 use lib.ListN.{length}
 use Rattle.spec.specs.Drives.{view_of}
 use Rattle.disk_gather.specs.Index.{ChainedTo, Blank}

@@ -1,10 +1,9 @@
 -- `chain_drive`: from z on the drive has its index; at Z there is none to have, and each turn adds one zone below. The header's byte goes along. Assumes nothing.
 use mathlib.Core.Path.{◌≡◌, refl, sym, subst, ◌∙◌}
-use Prim.Native.Nat.{ℕ, ◌+◌, ◌-◌, ◌≤◌, ◌<◌}
+use Prim.Native.Nat.{ℕ, ◌+◌, ◌-◌, ◌<◌}
 use native.Mathlib.Omega.{arith}
-use lib.ListN.{length}
 use Rattle.spec.specs.Drives.{view_of}
-use Rattle.spec.specs.Params.{capacity, place_of, place_byte}
+use Rattle.spec.specs.Params.{capacity}
 use Rattle.law_basic.specs.Geometry.{ranged, capacity-low}
 use Rattle.disk_gather.specs.Found.{head_back}
 use Rattle.disk_gather.specs.Index.{Chained, chain_none}

@@ -1,13 +1,8 @@
 -- `find_owners`: below g each zone has the last kept row that has it; a turn puts row g (`owner_more`). Assumes nothing.
 use Prim.Native.Nat.{ℕ, ◌+◌, ◌-◌, ◌*◌, ◌≤◌, ◌<◌}
-use Rattle.disk_gather.specs.Owners.{row_seg, owner_of, owner_none, owner_more}
-use Rattle.law_basic.specs.Geometry.{zone_index_lt}
-use Rattle.spec.specs.Drives.{zone_on}
-use lib.Dec.{eqb}
+use Rattle.disk_gather.specs.Owners.{owner_of}
 use lib.ListN.{length, get_or}
-use mathlib.Core.Bool.{false, cond, ◌&&◌}
-use mathlib.Core.Path.{◌≡◌, refl, sym, ap, ◌∙◌}
-use native.Mathlib.Omega.{arith}
+use mathlib.Core.Path.{◌≡◌}
 use Rattle.disk_gather.proofs.find_owners.Given as goal
 
 abbrev pub invariant-loop-g : goal.invariant-loop-g

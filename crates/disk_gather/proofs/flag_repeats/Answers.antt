@@ -1,18 +1,16 @@
 -- `flag_repeats`: zone by zone the array has the flags (`set_more`), and keeps its length. The header's byte goes along. Assumes nothing.
-use mathlib.Core.Path.{◌≡◌, refl, sym, ap, ◌∙◌}
+use mathlib.Core.Path.{refl, sym, ap, ◌∙◌}
 use mathlib.Core.Bool.{Bool, false}
-use mathlib.Core.List.{List}
-use Prim.Native.Nat.{ℕ, ◌+◌, ◌-◌, ◌≤◌, ◌<◌}
+use Prim.Native.Nat.{ℕ, ◌+◌, ◌<◌}
 use native.Mathlib.Omega.{arith}
 use lib.Dec.{leb}
-use lib.ListN.{length, get_or, length-set}
+use lib.ListN.{length, length-set}
 use Rattle.spec.specs.Drives.{view_of}
 use Rattle.spec.specs.Lists.{any}
-use Rattle.spec.specs.Params.{capacity, pointers_len, place_of, place_byte, present}
+use Rattle.spec.specs.Params.{capacity, present}
 use Rattle.spec.specs.Segments.{low_drive, serial_in, bearing}
 use Rattle.law_basic.specs.Geometry.{ranged, capacity-low}
 use Rattle.disk_gather.specs.Found.{set_more, serial_bytes, head_step, found_header_room}
-use Rattle.disk_gather.specs.Index.{ChainedTo}
 use Rattle.disk_gather.proofs.flag_repeats.Goals as goal
 
 pub low_drive-low-requires : goal.low_drive-low-requires

@@ -1,6 +1,5 @@
 -- `gather`: with the small arrays where there are few zones, else with the large. Assumes nothing.
 use native.Mathlib.Omega.{arith}
-use borrow.Author.Rules.{rules}
 use Rattle.spec.specs.Params.{offline_len}
 use Rattle.disk_gather.proofs.gather.Goals as goal
 

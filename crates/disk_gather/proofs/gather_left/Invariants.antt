@@ -1,18 +1,15 @@
 -- `gather_left`: zone by zone the rows (`rows_more`) and the flags (`set_more`) are as asked, and keep their lengths. Assumes nothing.
-use mathlib.Core.Path.{◌≡◌, refl, ◌∙◌}
+use mathlib.Core.Path.{◌≡◌}
 use mathlib.Core.Bool.{true, false}
 use mathlib.Core.List.{List}
 use Prim.Native.Nat.{ℕ, ◌-◌, ◌*◌, ◌≤◌, ◌<◌}
-use native.Mathlib.Omega.{arith}
-use lib.ListN.{length, get_or, length-set}
+use lib.ListN.{length, get_or}
 use Rattle.spec.specs.Bytes.{part}
 use Rattle.spec.specs.Drives.{view_of}
 use Rattle.spec.specs.Params.{pointers_len}
 use Rattle.spec.specs.Segments.{low_drive, leads}
-use Rattle.law_basic.specs.Geometry.{ranged}
 use Rattle.law_drives.specs.Tables.{seg_at}
 use Rattle.disk_gather.specs.Flags.{left_at, Serials}
-use Rattle.disk_gather.specs.Found.{set_more, rows_more}
 use Rattle.disk_gather.specs.Index.{ChainedTo}
 use Rattle.disk_gather.proofs.gather_left.Given as goal
 

@@ -1,6 +1,5 @@
 -- `gather_with`: the index is made, of it and the serials come the rows and the flags of 1, and of these which segments remain. Assumes nothing.
 use native.Mathlib.Omega.{arith}
-use borrow.Author.Rules.{rules}
 use Rattle.disk_gather.proofs.gather_with.Goals as goal
 
 pub chain_all-requires : goal.chain_all-requires

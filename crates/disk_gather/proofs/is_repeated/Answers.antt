@@ -1,16 +1,14 @@
 -- `is_repeated`: some present drive from d on bears the serial twice just if some does; one found ends it, and at N none is left. Assumes nothing.
-use mathlib.Core.Path.{◌≡◌, sym, ◌∙◌}
+use mathlib.Core.Path.{sym, ◌∙◌}
 use mathlib.Core.Bool.{Bool, not, ◌&&◌}
-use Prim.Native.Nat.{ℕ, ◌-◌, ◌≤◌}
+use Prim.Native.Nat.{ℕ}
 use native.Mathlib.Omega.{arith}
 use lib.Dec.{leb}
 use lib.ListN.{length}
-use Rattle.spec.specs.Drives.{View}
-use Rattle.spec.specs.Lists.{up_from, below, any, is_in}
+use Rattle.spec.specs.Lists.{below, is_in}
 use Rattle.spec.specs.Params.{drives_of, present}
 use Rattle.spec.specs.Segments.{bearing}
 use Rattle.law_scans.specs.Scans.{any_found, any_passed, any-ended, any-start, any-keep}
-use Rattle.disk_gather.specs.Index.{ChainedTo}
 use Rattle.disk_gather.proofs.is_repeated.Goals as goal
 
 pub loop-d-init : goal.loop-d-init

@@ -3,7 +3,7 @@ use mathlib.Core.Path.{sym, subst}
 use Prim.Native.Nat.{ℕ, ◌+◌}
 use native.Mathlib.Omega.{arith}
 use lib.Bits.{bit_and}
-use Rattle.disk_gather.specs.Index.{in_bucket, Nearest, once_none, twice_is, next_of}
+use Rattle.disk_gather.specs.Index.{in_bucket, Nearest, once_none, twice_is, next_of_lem}
 use Rattle.disk_gather.proofs.is_twice.Goals as goal
 
 pub lowest_in-z-requires : goal.lowest_in-z-requires
@@ -50,4 +50,4 @@ returns c =
     sym (twice_is p v d r z n (omega (arith, c.if-p-z.false)) c.walk.result
     (c.walk.ensures.nearest v d (z + 1) (omega (arith, c.if-p-z.false)) x
     (subst (λ (k : ℕ). Nearest (in_bucket p v a.mask d (bit_and r a.mask)) p.Z (z + 1) (z + 1 + k)) (sym c.wide16.ensures.0)
-    (next_of p v a.mask d r a.heads.now a.links.now x z (omega (arith, c.if-p-z.false)) n))))
+    (next_of_lem p v a.mask d r a.heads.now a.links.now x z (omega (arith, c.if-p-z.false)) n))))

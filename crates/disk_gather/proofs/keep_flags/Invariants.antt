@@ -1,16 +1,14 @@
 -- `keep_flags`: zone by zone the array says where one remains (`set_more`), and keeps its length. Assumes nothing.
-use mathlib.Core.Path.{◌≡◌, refl, ◌∙◌}
+use mathlib.Core.Path.{◌≡◌}
 use mathlib.Core.List.{List}
 use mathlib.Core.Bool.{false}
 use Prim.Native.Nat.{ℕ, ◌-◌, ◌≤◌, ◌<◌}
-use native.Mathlib.Omega.{arith}
-use lib.ListN.{length, get_or, length-set}
+use lib.ListN.{length, get_or}
 use Rattle.spec.specs.Drives.{view_of}
 use Rattle.spec.specs.Params.{pointers_len}
 use Rattle.law_drives.specs.Segs.{Here}
 use Rattle.law_drives.specs.Tables.{remains_at}
 use Rattle.disk_gather.specs.Flags.{LeftFlags}
-use Rattle.disk_gather.specs.Found.{set_more}
 use Rattle.disk_gather.specs.Index.{ChainedTo}
 use Rattle.disk_gather.proofs.keep_flags.Given as goal
 

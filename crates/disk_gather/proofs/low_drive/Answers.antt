@@ -1,9 +1,8 @@
 -- `low_drive`: the first present drive from d on is the first of all; a present one ends the search, and at N there is none and it is 0. Assumes nothing.
-use mathlib.Core.Path.{◌≡◌, sym, ap, ◌∙◌}
+use mathlib.Core.Path.{sym, ap, ◌∙◌}
 use mathlib.Core.Bool.{not}
-use Prim.Native.Nat.{◌-◌, ◌≤◌}
 use native.Mathlib.Omega.{arith}
-use Rattle.spec.specs.Lists.{up_from, below, keep, first_or, is_in}
+use Rattle.spec.specs.Lists.{keep, first_or, is_in}
 use Rattle.spec.specs.Params.{drives_of, present}
 use Rattle.spec.specs.Segments.{low_drive}
 use Rattle.law_basic.specs.Geometry.{ranged}

@@ -1,10 +1,9 @@
 -- `lowest_bearing`: the first from z on is the first of all; such a zone z is it, another passes on; at Z there is none. The header's byte goes along. Assumes nothing.
-use mathlib.Core.Path.{◌≡◌, sym, ◌∙◌}
-use Prim.Native.Nat.{◌+◌, ◌-◌, ◌≤◌, ◌<◌}
+use mathlib.Core.Path.{sym, ◌∙◌}
+use Prim.Native.Nat.{◌+◌, ◌<◌}
 use native.Mathlib.Omega.{arith}
 use Rattle.spec.specs.Drives.{view_of}
-use Rattle.spec.specs.Lists.{below, up_from, keep, first_or}
-use Rattle.spec.specs.Params.{capacity, place_of, place_byte}
+use Rattle.spec.specs.Params.{capacity}
 use Rattle.spec.specs.Segments.{bearing, lowest_bearing}
 use Rattle.law_basic.specs.Geometry.{ranged, capacity-low}
 use Rattle.disk_gather.specs.Found.{lowest_start, lowest_turn, lowest_pass, lowest_end, head_step, found_header_room}

@@ -1,7 +1,6 @@
 -- `lowest_on`: the drive's parts of the arrays are its index. Assumes nothing.
 use Prim.Native.Nat.{◌+◌, ◌*◌}
 use native.Mathlib.Omega.{arith}
-use borrow.Author.Rules.{rules}
 use Rattle.law_basic.specs.Geometry.{ranged}
 use Rattle.disk_gather.specs.Index.{nearest_lowest, chain_room, length_lent, chain_lent}
 use Rattle.disk_gather.proofs.lowest_on.Goals as goal

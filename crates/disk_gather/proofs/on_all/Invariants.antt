@@ -1,15 +1,10 @@
 -- `on_all`: all drives are missing or have a zone iff those from d on are so; one that is not ends it. Assumes nothing.
-use mathlib.Core.Path.{◌≡◌, sym, ◌∙◌}
-use mathlib.Core.Bool.{Bool, ◌||◌}
-use Prim.Native.Nat.{ℕ, ◌-◌, ◌≤◌}
-use native.Mathlib.Omega.{arith}
+use mathlib.Core.Path.{◌≡◌}
+use mathlib.Core.Bool.{◌||◌}
+use Prim.Native.Nat.{◌-◌, ◌≤◌}
 use lib.Dec.{ltb}
-use borrow.Author.Tests.{not-true, not-false}
 use Rattle.spec.specs.Drives.{zone_on}
 use Rattle.spec.specs.Lists.{up_from, below, all, is_in}
-use Rattle.spec.specs.Params.{drives_of, present}
-use Rattle.law_basic.specs.Ranges.{all_keep}
-use Rattle.law_scans.specs.Scans.{all_broken, all_passed, all-ended, all_start}
 use Rattle.disk_gather.proofs.on_all.Given as goal
 
 abbrev pub invariant-loop-d : goal.invariant-loop-d

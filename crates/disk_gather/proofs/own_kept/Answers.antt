@@ -5,7 +5,6 @@ use Rattle.law_basic.specs.Geometry.{ranged}
 use Rattle.law_basic.specs.Segs.{ZonesLow}
 use Rattle.spec.specs.Drives.{zone_on}
 use Rattle.spec.specs.declared.Seg.{Seg}
-use borrow.Author.Rules.{rules}
 use borrow.Author.Tests.{not-true, not-false}
 use lib.Dec.{eqb}
 use lib.ListN.{get_or}

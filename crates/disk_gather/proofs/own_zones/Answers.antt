@@ -1,12 +1,12 @@
 -- `own_zones`: drive by drive the segment's row stands at its zone (`own_more`), and nothing else changes. Assumes nothing.
-use Prim.Native.Nat.{ℕ, ◌+◌, ◌-◌, ◌*◌, ◌≤◌, ◌<◌}
+use Prim.Native.Nat.{ℕ, ◌+◌, ◌*◌}
 use Rattle.disk_gather.specs.Owners.{own_more}
 use Rattle.law_basic.specs.Segs.{low_here}
 use Rattle.spec.specs.Drives.{zone_on}
 use Rattle.spec.specs.Params.{offline_len}
 use borrow.Author.Tests.{lt-ltb, le-ltb}
-use lib.Dec.{ltb, eqb}
-use lib.ListN.{length, get_or, set, length-set}
+use lib.Dec.{eqb}
+use lib.ListN.{get_or, set, length-set}
 use mathlib.Core.Bool.{Bool, cond, ◌&&◌}
 use mathlib.Core.Path.{◌≡◌, refl, sym, ap, ◌∙◌}
 use native.Mathlib.Omega.{arith}

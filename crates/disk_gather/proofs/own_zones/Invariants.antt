@@ -1,15 +1,10 @@
 -- `own_zones`: drive by drive the segment's row stands at its zone (`own_more`), and nothing else changes. Assumes nothing.
 use Prim.Native.Nat.{ℕ, ◌+◌, ◌-◌, ◌*◌, ◌≤◌, ◌<◌}
-use Rattle.disk_gather.specs.Owners.{own_more}
-use Rattle.law_basic.specs.Segs.{low_here}
 use Rattle.spec.specs.Drives.{zone_on}
-use Rattle.spec.specs.Params.{offline_len}
-use borrow.Author.Tests.{lt-ltb, le-ltb}
 use lib.Dec.{ltb, eqb}
-use lib.ListN.{length, get_or, set, length-set}
-use mathlib.Core.Bool.{Bool, cond, ◌&&◌}
-use mathlib.Core.Path.{◌≡◌, refl, sym, ap, ◌∙◌}
-use native.Mathlib.Omega.{arith}
+use lib.ListN.{length, get_or}
+use mathlib.Core.Bool.{cond, ◌&&◌}
+use mathlib.Core.Path.{◌≡◌}
 use Rattle.disk_gather.proofs.own_zones.Given as goal
 
 abbrev pub invariant-loop-d : goal.invariant-loop-d

@@ -1,14 +1,11 @@
 -- `read_serials`: zone by zone the array has the serials (`set_more`), and keeps its length. The header's byte goes along. Assumes nothing.
-use mathlib.Core.Path.{◌≡◌, refl, sym, ap, ◌∙◌}
+use mathlib.Core.Path.{◌≡◌}
 use mathlib.Core.List.{List}
-use Prim.Native.Nat.{ℕ, ◌+◌, ◌-◌, ◌≤◌, ◌<◌}
-use native.Mathlib.Omega.{arith}
-use lib.ListN.{length, get_or, length-set}
+use Prim.Native.Nat.{ℕ, ◌-◌, ◌≤◌, ◌<◌}
+use lib.ListN.{length, get_or}
 use Rattle.spec.specs.Drives.{view_of}
-use Rattle.spec.specs.Params.{capacity, pointers_len, place_of, place_byte}
+use Rattle.spec.specs.Params.{pointers_len, place_of, place_byte}
 use Rattle.spec.specs.Segments.{low_drive, serial_in}
-use Rattle.law_basic.specs.Geometry.{ranged, capacity-low}
-use Rattle.disk_gather.specs.Found.{set_more, serial_bytes, head_step, found_header_room}
 use Rattle.disk_gather.proofs.read_serials.Given as goal
 
 abbrev pub invariant-loop-z : goal.invariant-loop-z

@@ -1,12 +1,8 @@
 -- `row`: after d turns the first d zones are those of the row; after 8 it is the row. Assumes nothing.
-use mathlib.Core.Path.{◌≡◌, ap, ◌∙◌}
-use mathlib.Core.List.{List}
-use Prim.Native.Nat.{ℕ, ◌+◌, ◌-◌, ◌*◌, ◌≤◌}
-use native.Mathlib.Omega.{arith}
-use lib.ListN.{get_or, set}
-use Rattle.spec.specs.Drives.{seg}
-use Rattle.disk_gather.specs.Found.{row_is}
-use Rattle.law_basic.specs.Segs.{filled_to, filled_none, filled_more}
+use mathlib.Core.Path.{◌≡◌}
+use Prim.Native.Nat.{◌+◌, ◌-◌, ◌*◌, ◌≤◌}
+use lib.ListN.{get_or}
+use Rattle.law_basic.specs.Segs.{filled_to}
 use Rattle.disk_gather.proofs.row.Given as goal
 
 abbrev pub invariant-loop-d : goal.invariant-loop-d

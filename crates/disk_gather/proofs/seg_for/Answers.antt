@@ -2,7 +2,6 @@
 use mathlib.Core.Path.{◌≡◌, ap, ◌∙◌}
 use Prim.Native.Nat.{ℕ}
 use native.Mathlib.Omega.{arith}
-use borrow.Author.Rules.{rules}
 use Rattle.spec.specs.Drives.{view_of}
 use Rattle.spec.specs.Segments.{low_drive, lowest_bearing}
 use Rattle.disk_gather.proofs.seg_for.Goals as goal

@@ -1,13 +1,9 @@
 -- `seg_from`: after d turns the first d zones are the segment's and the others 0; after N it is the segment. Assumes nothing.
-use mathlib.Core.Path.{◌≡◌, ap, ◌∙◌}
-use mathlib.Core.List.{List}
-use Prim.Native.Nat.{ℕ, ◌-◌, ◌≤◌, ◌<◌}
-use native.Mathlib.Omega.{arith}
-use lib.ListN.{set}
-use Rattle.spec.specs.Drives.{view_of, seg}
-use Rattle.spec.specs.Segments.{zone_for, seg_for}
-use Rattle.law_basic.specs.Geometry.{ranged}
-use Rattle.law_basic.specs.Segs.{filled_to, filled_none, filled_more, filled_with}
+use mathlib.Core.Path.{◌≡◌}
+use Prim.Native.Nat.{◌-◌, ◌≤◌}
+use Rattle.spec.specs.Drives.{view_of}
+use Rattle.spec.specs.Segments.{zone_for}
+use Rattle.law_basic.specs.Segs.{filled_to}
 use Rattle.disk_gather.proofs.seg_from.Given as goal
 
 abbrev pub invariant-loop-d : goal.invariant-loop-d

@@ -1,14 +1,12 @@
 -- `seg_in`: after d turns the first d zones are the segment's and the others 0; after N it is the segment. Assumes nothing.
 use mathlib.Core.Path.{◌≡◌, ap, ◌∙◌}
 use mathlib.Core.List.{List}
-use Prim.Native.Nat.{ℕ, ◌-◌, ◌≤◌, ◌<◌}
+use Prim.Native.Nat.{ℕ, ◌<◌}
 use native.Mathlib.Omega.{arith}
-use lib.ListN.{length, set}
+use lib.ListN.{set}
 use Rattle.spec.specs.Drives.{view_of, seg}
-use Rattle.spec.specs.Params.{pointers_len}
-use Rattle.spec.specs.Segments.{lowest_bearing, zone_for, seg_for}
+use Rattle.spec.specs.Segments.{zone_for, seg_for}
 use Rattle.law_basic.specs.Geometry.{ranged}
-use Rattle.disk_gather.specs.Index.{ChainedTo}
 use Rattle.law_basic.specs.Segs.{filled_to, filled_none, filled_more, filled_with}
 use Rattle.disk_gather.proofs.seg_in.Goals as goal
 

@@ -1,7 +1,6 @@
 -- `serial_here`: the block lies within the image, and the serial read there is the header's. Assumes nothing.
 use mathlib.Core.Path.{ap, ◌∙◌}
 use native.Mathlib.Omega.{arith}
-use borrow.Author.Rules.{rules}
 use Rattle.spec.specs.Layout.{header_serial}
 use Rattle.law_basic.specs.Fields.{header_fits}
 use Rattle.law_basic.specs.Geometry.{ranged}

@@ -1,10 +1,8 @@
 -- `walk`: up to z none bears the serial, and z is of its bucket; one that bears it is the nearest, from another the walk goes on, and at Z there is none. Assumes nothing.
 use mathlib.Core.Path.{subst, sym}
-use Prim.Native.Nat.{ℕ, ◌+◌, ◌-◌, ◌≤◌}
+use Prim.Native.Nat.{ℕ, ◌+◌}
 use native.Mathlib.Omega.{arith}
-use lib.Bits.{bit_and}
-use Rattle.spec.specs.Drives.{View}
-use Rattle.disk_gather.specs.Index.{Nearest, in_bucket, Chained, Along, walk_start, index_walk_hit, index_walk_miss, walk_end}
+use Rattle.disk_gather.specs.Index.{Along, walk_start, index_walk_hit, index_walk_miss, walk_end}
 use Rattle.disk_gather.proofs.walk.Goals as goal
 
 pub loop-z-init : goal.loop-z-init

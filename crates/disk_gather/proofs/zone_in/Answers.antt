@@ -3,7 +3,6 @@ use mathlib.Core.Path.{◌≡◌, sym, ap, ◌∙◌}
 use mathlib.Core.Bool.{false}
 use Prim.Native.Nat.{ℕ}
 use native.Mathlib.Omega.{arith}
-use borrow.Author.Rules.{rules}
 use Rattle.spec.specs.Drives.{view_of, chunk_at}
 use Rattle.spec.specs.Layout.{header_zone}
 use Rattle.spec.specs.Lists.{is_in}

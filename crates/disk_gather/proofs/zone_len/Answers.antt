@@ -2,7 +2,6 @@
 use mathlib.Core.Path.{◌≡◌}
 use Prim.Native.Nat.{◌*◌}
 use native.Mathlib.Omega.{arith}
-use borrow.Author.Rules.{rules}
 use Rattle.spec.specs.Params.{zone_len}
 use Rattle.law_basic.specs.Geometry.{ranged, zone_high}
 use Rattle.disk_gather.proofs.zone_len.Goals as goal

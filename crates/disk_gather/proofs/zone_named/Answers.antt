@@ -3,7 +3,6 @@ use mathlib.Core.Path.{sym, ap, ◌∙◌}
 use mathlib.Core.List.{List}
 use Prim.Native.Nat.{ℕ}
 use native.Mathlib.Omega.{arith}
-use borrow.Author.Rules.{rules}
 use Rattle.spec.specs.Bytes.{part}
 use Rattle.spec.specs.Layout.{header_zone}
 use Rattle.law_basic.specs.Fields.{header_fits}

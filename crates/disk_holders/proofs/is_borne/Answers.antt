@@ -1,10 +1,9 @@
 -- `is_borne`: all drives are missing or bear the serial just if those from d on do; one that does not ends it. Assumes nothing.
-use mathlib.Core.Path.{◌≡◌, sym, ◌∙◌}
-use Prim.Native.Nat.{◌-◌, ◌≤◌}
+use mathlib.Core.Path.{sym, ◌∙◌}
 use native.Mathlib.Omega.{arith}
 use borrow.Author.Tests.{not-true, not-false}
 use Rattle.spec.specs.Drives.{view_of}
-use Rattle.disk_holders.specs.Borne.{borne_by_all, borne_from, borne_start, borne_broken, borne_passed, borne_ended}
+use Rattle.disk_holders.specs.Borne.{borne_start, borne_broken, borne_passed, borne_ended}
 use Rattle.disk_holders.proofs.is_borne.Goals as goal
 
 pub loop-d-init : goal.loop-d-init

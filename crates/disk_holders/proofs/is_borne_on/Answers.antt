@@ -1,7 +1,6 @@
 -- `is_borne_on`: a missing drive passes; of another the answer is that of `bears_serial`, whatever the guess. Assumes nothing.
 use mathlib.Core.Path.{sym, ap, ◌∙◌}
 use mathlib.Core.Bool.{Bool, ◌||◌}
-use borrow.Author.Rules.{rules}
 use lib.Dec.{ltb}
 use Rattle.spec.specs.Drives.{view_of}
 use Rattle.spec.specs.Segments.{lowest_bearing}

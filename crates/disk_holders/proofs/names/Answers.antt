@@ -1,7 +1,6 @@
 -- `names`: the tests in their order, the cheap ones first (`names_unused`, `names_other`, `names_held`). Assumes nothing.
 use mathlib.Core.Path.{sym, ◌∙◌, subst}
 use Prim.Native.Nat.{ℕ, ◌<◌}
-use borrow.Author.Rules.{rules}
 use borrow.Author.Tests.{not-true}
 use Rattle.spec.specs.Drives.{view_of}
 use Rattle.disk_holders.specs.Held.{names_unused, names_other, names_held}

@@ -1,10 +1,9 @@
 -- `next_named`: the next one from y on is the next one from the start on; one found is it, at Z there is none. Assumes nothing.
-use mathlib.Core.Path.{◌≡◌, refl, sym, ◌∙◌}
-use Prim.Native.Nat.{◌-◌, ◌≤◌}
+use mathlib.Core.Path.{refl, sym, ◌∙◌}
 use native.Mathlib.Omega.{arith}
 use Rattle.spec.specs.Drives.{view_of}
 use Rattle.disk_holders.specs.Held.{names_zone}
-use Rattle.disk_holders.specs.Next.{next_one, next_hit, next_miss, next_end}
+use Rattle.disk_holders.specs.Next.{next_hit, next_miss, next_end}
 use Rattle.disk_holders.proofs.next_named.Goals as goal
 
 pub loop-y-init : goal.loop-y-init

@@ -1,10 +1,9 @@
 -- `next_named`: the next one from y on is the next one from the start on; one found is it, at Z there is none. Assumes nothing.
-use mathlib.Core.Path.{◌≡◌, refl, sym, ◌∙◌}
+use mathlib.Core.Path.{◌≡◌}
 use Prim.Native.Nat.{◌-◌, ◌≤◌}
-use native.Mathlib.Omega.{arith}
 use Rattle.spec.specs.Drives.{view_of}
 use Rattle.disk_holders.specs.Held.{names_zone}
-use Rattle.disk_holders.specs.Next.{next_one, next_hit, next_miss, next_end}
+use Rattle.disk_holders.specs.Next.{next_one}
 use Rattle.disk_holders.proofs.next_named.Given as goal
 
 abbrev pub invariant-loop-y : goal.invariant-loop-y

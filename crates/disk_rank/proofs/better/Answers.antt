@@ -1,6 +1,5 @@
 -- `better`: none so far: the new one; else `beats` of the two says which end of the definition is taken. Assumes nothing.
 use mathlib.Core.Path.{sym, ap, ◌∙◌}
-use borrow.Author.Rules.{rules}
 use Rattle.spec.specs.Rank.{better}
 use Rattle.disk_rank.specs.Ranked.{ranked, ranked_best, better_first, better_new, better_old}
 use Rattle.disk_rank.specs.declared.Best.{Best}

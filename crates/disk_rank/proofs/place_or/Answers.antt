@@ -1,6 +1,5 @@
 -- `place_or`: none: the definition gives the place of never written; one: its place. Assumes nothing.
 use mathlib.Core.Path.{sym, ap, ◌∙◌}
-use borrow.Author.Rules.{rules}
 use Rattle.spec.specs.Rank.{place_or}
 use Rattle.disk_rank.specs.Ranked.{ranked, ranked_best, place_none, place_some}
 use Rattle.disk_rank.specs.declared.Best.{Best}

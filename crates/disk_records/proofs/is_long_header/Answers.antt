@@ -1,7 +1,5 @@
 -- `is_long_header`: the array is as long as the longest block with its spare, room enough for `matches_header`. Assumes nothing.
 use native.Mathlib.Omega.{arith}
-use borrow.Author.Rules.{rules}
-use Rattle.spec.specs.Engine.Call.{close}
 use Rattle.law_basic.specs.Geometry.{ranged, spare_len_lem, unit_high}
 use Rattle.disk_records.proofs.is_long_header.Goals as goal
 

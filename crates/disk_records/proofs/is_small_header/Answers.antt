@@ -1,7 +1,6 @@
 -- `is_small_header`: the array has room for 256 bytes and a spare. Assumes nothing.
 use Prim.Native.Nat.{◌+◌, ◌≤◌}
 use native.Mathlib.Omega.{arith}
-use borrow.Author.Rules.{rules}
 use Rattle.spec.specs.Params.{spare_len, unit_len}
 use Rattle.spec.specs.declared.Params.{Params}
 use Rattle.law_basic.specs.Geometry.{spare_len_lem}

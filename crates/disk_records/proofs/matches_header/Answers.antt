@@ -2,11 +2,9 @@
 use mathlib.Core.Path.{◌≡◌, sym, ap, ◌∙◌}
 use mathlib.Core.List.{◌++◌}
 use native.Mathlib.Omega.{arith}
-use borrow.Author.Rules.{rules}
 use lib.Seq.{length-take-le, take_at}
 use lib.ListN.{length, take, drop}
 use Rattle.spec.specs.Drives.{zero_spare, zones_in}
-use Rattle.spec.specs.Engine.Call.{close}
 use Rattle.spec.specs.Layout.{header_block}
 use Rattle.spec.specs.Lists.{same_list}
 use Rattle.law_basic.specs.Fields.{header_block_long}

@@ -1,7 +1,6 @@
 -- `read_record`: the constants are where the table's fields begin, and each read is its field. Assumes nothing.
 use native.Mathlib.Omega.{arith}
 use Rattle.spec.specs.Bytes.{widths_of, field_at, read_field}
-use Rattle.spec.specs.Engine.Call.{close}
 use Rattle.spec.specs.Layout.{record_of_of}
 use Rattle.spec.specs.Lists.{total}
 use Rattle.spec.specs.Params.{record_table, record_widths}

@@ -1,7 +1,5 @@
 -- `write_record`: the table's fields, one behind the other, fill the spare. Assumes nothing.
 use native.Mathlib.Omega.{arith}
-use borrow.Author.Rules.{rules}
-use Rattle.spec.specs.Engine.Call.{close}
 use Rattle.law_basic.specs.Geometry.{spare_len_lem}
 use Rattle.disk_records.specs.Record.{rec_val, record_written}
 use Rattle.disk_records.proofs.write_record.Goals as goal

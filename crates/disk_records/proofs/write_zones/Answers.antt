@@ -1,14 +1,12 @@
 -- `write_zones`: what remains to be written makes at each turn what all zones make of the buffer at the start (`ZonesLeft`). Assumes nothing.
-use mathlib.Core.Path.{◌≡◌, refl, sym, ap, ◌∙◌}
-use Prim.Native.Nat.{ℕ, ◌+◌, ◌-◌, ◌*◌, ◌≤◌, ◌<◌}
+use mathlib.Core.Path.{refl, sym, ap, ◌∙◌}
+use Prim.Native.Nat.{ℕ, ◌+◌, ◌*◌, ◌<◌}
 use native.Mathlib.Omega.{arith}
-use lib.ListN.{length}
 use Rattle.spec.specs.Bytes.{to_be, splice}
-use Rattle.spec.specs.Drives.{seg}
 use Rattle.law_basic.specs.Fields.{header_length}
 use Rattle.law_basic.specs.Geometry.{ranged}
 use Rattle.law_basic.specs.Segs.{zone_is}
-use Rattle.disk_records.specs.Header.{ZonesLeft, zones_none, zones_more, header_zones_all}
+use Rattle.disk_records.specs.Header.{zones_none, zones_more, header_zones_all}
 use Rattle.disk_records.proofs.write_zones.Goals as goal
 
 pub loop-d-init : goal.loop-d-init

@@ -1,7 +1,6 @@
 -- `addresses_len`: L is at most 468378645 (`addresses_all`), so that four times that fits. Assumes nothing.
 use mathlib.Core.Path.{refl}
 use native.Mathlib.Omega.{arith}
-use Rattle.spec.specs.Engine.Call.{close}
 use Rattle.spec.specs.Params.{addresses_len}
 use Rattle.law_basic.specs.Geometry.{ranged, addresses_all}
 use Rattle.disk_shape.proofs.addresses_len.Goals as goal

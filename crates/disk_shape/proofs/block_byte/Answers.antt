@@ -2,8 +2,6 @@
 use mathlib.Core.Path.{◌≡◌, ap, ◌∙◌}
 use Prim.Native.Nat.{◌+◌, ◌≤◌}
 use native.Mathlib.Omega.{arith}
-use borrow.Author.Rules.{rules}
-use Rattle.spec.specs.Engine.Call.{close}
 use Rattle.spec.specs.Params.{unit_len, image_len, place_of, place_byte}
 use Rattle.law_basic.specs.Geometry.{ranged, image_high, block_within}
 use Rattle.disk_shape.proofs.block_byte.Goals as goal

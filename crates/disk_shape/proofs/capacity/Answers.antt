@@ -2,8 +2,6 @@
 use mathlib.Core.Path.{◌≡◌, ap}
 use Prim.Native.Nat.{ℕ, ◌+◌}
 use native.Mathlib.Omega.{arith}
-use borrow.Author.Rules.{rules}
-use Rattle.spec.specs.Engine.Call.{close}
 use Rattle.spec.specs.Params.{capacity}
 use Rattle.law_basic.specs.Geometry.{ranged, capacity-low, capacity_high}
 use Rattle.disk_shape.proofs.capacity.Goals as goal

@@ -2,7 +2,6 @@
 use mathlib.Core.Path.{refl}
 use Prim.Native.Nat.{◌+◌, ◌*◌, ◌≤◌, ◌<◌}
 use native.Mathlib.Omega.{arith}
-use Rattle.spec.specs.Engine.Call.{close}
 use Rattle.spec.specs.Memory.{compact_at}
 use Rattle.spec.specs.Params.{compact_len}
 use Rattle.law_basic.specs.Geometry.{ranged, zones_all, compact_high, zone_index_lt, compact_within}

@@ -3,7 +3,6 @@ use mathlib.Core.Path.{refl}
 use Prim.Native.Nat.{◌%◌, ◌<◌}
 use native.Mathlib.Omega.{arith}
 use native.Mathlib.Nat.{mod-lt}
-use Rattle.spec.specs.Engine.Call.{close}
 use Rattle.spec.specs.Layout.{compact_entry}
 use Rattle.law_basic.specs.Geometry.{ranged}
 use Rattle.disk_shape.proofs.compact_entry.Goals as goal

@@ -1,7 +1,6 @@
 -- `compact_len`: N * Z is at most 8192 and the product with S at most 536862720 (`compact_high`). Assumes nothing.
 use mathlib.Core.Path.{refl}
 use native.Mathlib.Omega.{arith}
-use Rattle.spec.specs.Engine.Call.{close}
 use Rattle.spec.specs.Params.{compact_len}
 use Rattle.law_basic.specs.Geometry.{ranged, zones_all, compact_high}
 use Rattle.disk_shape.proofs.compact_len.Goals as goal

@@ -2,7 +2,6 @@
 use mathlib.Core.Path.{◌≡◌, ap}
 use Prim.Native.Nat.{ℕ, ◌-◌}
 use native.Mathlib.Omega.{arith}
-use borrow.Author.Rules.{rules}
 use Rattle.spec.specs.Params.{data_count}
 use Rattle.law_basic.specs.Geometry.{ranged, data_count-low, data_count_high}
 use Rattle.disk_shape.proofs.data_count.Goals as goal

@@ -2,8 +2,6 @@
 use mathlib.Core.Path.{◌≡◌, ap}
 use Prim.Native.Nat.{ℕ, ◌+◌, ◌-◌, ◌/◌}
 use native.Mathlib.Omega.{arith}
-use borrow.Author.Rules.{rules}
-use Rattle.spec.specs.Engine.Call.{close}
 use Rattle.spec.specs.Params.{footers}
 use Rattle.law_basic.specs.Geometry.{ranged, footers-low, footers_high}
 use Rattle.disk_shape.proofs.footers.Goals as goal

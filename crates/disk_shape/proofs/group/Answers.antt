@@ -2,7 +2,6 @@
 use mathlib.Core.Path.{refl}
 use native.Mathlib.Omega.{arith}
 use native.Mathlib.Nat.{div-le_self}
-use Rattle.spec.specs.Engine.Call.{close}
 use Rattle.spec.specs.Layout.{group}
 use Rattle.law_basic.specs.Geometry.{ranged}
 use Rattle.disk_shape.proofs.group.Goals as goal

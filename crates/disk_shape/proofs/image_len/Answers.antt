@@ -3,8 +3,6 @@
 use mathlib.Core.Path.{ap₂}
 use Prim.Native.Nat.{ℕ, ◌+◌, ◌*◌, ◌≤◌}
 use native.Mathlib.Omega.{arith}
-use borrow.Author.Rules.{rules}
-use Rattle.spec.specs.Engine.Call.{close}
 use Rattle.spec.specs.Params.{spare_len, zone_len, drive_len, image_len}
 use Rattle.law_basic.specs.Geometry.{prod_le, ranged, spare_len_lem}
 use Rattle.disk_shape.proofs.image_len.Goals as goal

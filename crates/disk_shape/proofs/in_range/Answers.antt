@@ -3,9 +3,7 @@ use mathlib.Core.Path.{◌≡◌, sym, ap, ◌∙◌}
 use mathlib.Core.Bool.{true, false}
 use Prim.Native.Nat.{ℕ, ◌-◌, ◌*◌, ◌≤◌}
 use native.Mathlib.Omega.{arith}
-use borrow.Author.Rules.{rules}
 use borrow.Author.Tests.{not-true, not-false}
-use Rattle.spec.specs.Engine.Call.{close}
 use Rattle.spec.specs.Lists.{is_member_of}
 use Rattle.spec.specs.Params.{between, block_sizes, data_count, most_with, most_addresses, in_range}
 use Rattle.law_basic.specs.Geometry.{prod_le, between-low, between_high}

@@ -1,7 +1,6 @@
 -- `inflight_len`: N is at most 8 and B at most 4096, so the product is at most 262144 (`inflight_high`). Assumes nothing.
 use mathlib.Core.Path.{refl}
 use native.Mathlib.Omega.{arith}
-use Rattle.spec.specs.Engine.Call.{close}
 use Rattle.spec.specs.Params.{inflight_len}
 use Rattle.law_basic.specs.Geometry.{ranged, inflight_high}
 use Rattle.disk_shape.proofs.inflight_len.Goals as goal

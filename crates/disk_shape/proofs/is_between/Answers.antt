@@ -1,6 +1,5 @@
 -- `is_between`: each test is one of the two comparisons of the definition. Assumes nothing.
 use borrow.Author.Tests.{le-leb, lt-leb}
-use Rattle.spec.specs.Engine.Call.{close}
 use Rattle.spec.specs.Params.{between}
 use Rattle.disk_shape.proofs.is_between.Goals as goal
 

@@ -2,9 +2,7 @@
 use mathlib.Core.Path.{ap}
 use mathlib.Core.Bool.{not}
 use Prim.Native.Nat.{ℕ}
-use borrow.Author.Rules.{rules}
 use lib.Dec.{eqb}
-use Rattle.spec.specs.Engine.Call.{close}
 use Rattle.spec.specs.Layout.{is_data}
 use Rattle.disk_shape.proofs.is_data.Goals as goal
 

@@ -1,7 +1,6 @@
 -- `per_footer`: the constant is the spare's length; B from 64 to 4096 gives 3 to 204. Assumes nothing.
 use mathlib.Core.Path.{sym, ap, subst}
 use Prim.Native.Nat.{ℕ, ◌/◌, ◌≤◌}
-use Rattle.spec.specs.Engine.Call.{close}
 use Rattle.spec.specs.Params.{per_footer}
 use Rattle.law_basic.specs.Geometry.{ranged, spare_len_lem, per_footer_low, per_footer_high}
 use Rattle.disk_shape.proofs.per_footer.Goals as goal

@@ -3,7 +3,6 @@ use mathlib.Core.Path.{ap}
 use Prim.Native.Nat.{ℕ, ◌+◌, ◌*◌, ◌≤◌, ◌<◌}
 use native.Mathlib.Omega.{arith}
 use borrow.Author.Rules.{rules}
-use Rattle.spec.specs.Engine.Call.{close}
 use Rattle.spec.specs.Params.{spare_len, place_byte}
 use Rattle.law_basic.specs.Geometry.{prod_le, spare_len_lem}
 use Rattle.disk_shape.proofs.place_byte.Goals as goal

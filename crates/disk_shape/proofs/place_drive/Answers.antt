@@ -4,7 +4,6 @@ use Prim.Native.Nat.{ℕ, ◌/◌, ◌<◌}
 use native.Mathlib.Omega.{arith}
 use borrow.Author.Rules.{rules}
 use native.Mathlib.Nat.{div-le_self}
-use Rattle.spec.specs.Engine.Call.{close}
 use Rattle.spec.specs.Params.{place_drive}
 use Rattle.law_basic.specs.Geometry.{ranged}
 use Rattle.disk_shape.proofs.place_drive.Goals as goal

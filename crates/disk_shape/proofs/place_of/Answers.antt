@@ -2,8 +2,6 @@
 use mathlib.Core.Path.{ap}
 use Prim.Native.Nat.{ℕ, ◌+◌, ◌*◌, ◌≤◌, ◌<◌}
 use native.Mathlib.Omega.{arith}
-use borrow.Author.Rules.{rules}
-use Rattle.spec.specs.Engine.Call.{close}
 use Rattle.spec.specs.Params.{place_of}
 use Rattle.law_basic.specs.Geometry.{prod_le, ranged, zones_all, zone_index_lt}
 use Rattle.disk_shape.proofs.place_of.Goals as goal

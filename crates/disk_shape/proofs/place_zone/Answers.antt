@@ -2,9 +2,7 @@
 use mathlib.Core.Path.{ap}
 use Prim.Native.Nat.{ℕ, ◌/◌, ◌%◌}
 use native.Mathlib.Omega.{arith}
-use borrow.Author.Rules.{rules}
 use native.Mathlib.Nat.{mod-lt}
-use Rattle.spec.specs.Engine.Call.{close}
 use Rattle.spec.specs.Params.{place_zone}
 use Rattle.law_basic.specs.Geometry.{ranged}
 use Rattle.disk_shape.proofs.place_zone.Goals as goal

@@ -3,7 +3,6 @@ use mathlib.Core.Path.{refl}
 use Prim.Native.Nat.{◌+◌, ◌*◌, ◌≤◌, ◌<◌}
 use native.Mathlib.Omega.{arith}
 use Rattle.spec.specs.Drives.{pointer_byte}
-use Rattle.spec.specs.Engine.Call.{close}
 use Rattle.law_basic.specs.Geometry.{ranged, zones_all, zone_index_lt, pointer_within}
 use Rattle.disk_shape.proofs.pointer_byte.Goals as goal
 

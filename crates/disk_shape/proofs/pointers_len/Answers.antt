@@ -1,7 +1,6 @@
 -- `pointers_len`: N * Z is at most 8192, so four times that is at most 32768. Assumes nothing.
 use mathlib.Core.Path.{refl}
 use native.Mathlib.Omega.{arith}
-use Rattle.spec.specs.Engine.Call.{close}
 use Rattle.spec.specs.Params.{pointers_len}
 use Rattle.law_basic.specs.Geometry.{ranged, zones_all, pointers_high}
 use Rattle.disk_shape.proofs.pointers_len.Goals as goal

@@ -3,7 +3,6 @@ use mathlib.Core.Path.{refl}
 use Prim.Native.Nat.{◌+◌, ◌*◌, ◌≤◌, ◌<◌}
 use native.Mathlib.Omega.{arith}
 use lib.Arith.{digits_lt}
-use Rattle.spec.specs.Engine.Call.{close}
 use Rattle.spec.specs.Memory.{slot_byte}
 use Rattle.spec.specs.Params.{inflight_len}
 use Rattle.law_basic.specs.Geometry.{ranged, inflight_high, slot_within}

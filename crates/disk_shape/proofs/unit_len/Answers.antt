@@ -2,7 +2,6 @@
 use mathlib.Core.Path.{sym, ap}
 use Prim.Native.Nat.{ℕ, ◌+◌}
 use native.Mathlib.Omega.{arith}
-use Rattle.spec.specs.Engine.Call.{close}
 use Rattle.spec.specs.Params.{unit_len}
 use Rattle.law_basic.specs.Geometry.{ranged, spare_len_lem}
 use Rattle.disk_shape.proofs.unit_len.Goals as goal

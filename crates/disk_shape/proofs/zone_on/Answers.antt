@@ -1,8 +1,6 @@
 -- `zone_on`: the drive is one of eight, and the zone stands at its index. Assumes nothing.
 use mathlib.Core.Path.{sym}
 use native.Mathlib.Omega.{arith}
-use borrow.Author.Rules.{rules}
-use Rattle.spec.specs.Engine.Call.{close}
 use Rattle.law_basic.specs.Geometry.{ranged}
 use Rattle.law_basic.specs.Segs.{zone_is}
 use Rattle.disk_shape.proofs.zone_on.Goals as goal

@@ -1,7 +1,6 @@
 -- `data_stored`: the definition is the lesser of pointer - 1 and S: the three ends are pointer 0, more than S, and between. Assumes nothing.
 use mathlib.Core.Path.{◌≡◌}
 use native.Mathlib.Omega.{arith}
-use borrow.Author.Rules.{rules}
 use Rattle.spec.specs.Drives.{pointer_of}
 use Rattle.law_basic.specs.Geometry.{ranged}
 use Rattle.disk_stored.specs.Stored.{data_stored_by}

@@ -1,7 +1,6 @@
 -- `footers_stored`: the definition is the lesser of pointer - 1 - S and the footers: the three ends are none, more than these, and between. Assumes nothing.
 use mathlib.Core.Path.{◌≡◌}
 use native.Mathlib.Omega.{arith}
-use borrow.Author.Rules.{rules}
 use Rattle.spec.specs.Drives.{pointer_of}
 use Rattle.law_basic.specs.Geometry.{ranged}
 use Rattle.disk_stored.specs.Stored.{footers-stored_by}

@@ -2,7 +2,6 @@
 use mathlib.Core.Path.{ap₂, ◌∙◌}
 use mathlib.Core.Bool.{Bool}
 use Prim.Native.Nat.{ℕ}
-use borrow.Author.Rules.{rules}
 use Rattle.spec.specs.Drives.{view_of, zone_at, record_in, record_at}
 use Rattle.disk_stored.proofs.record_at.Goals as goal
 

@@ -1,7 +1,6 @@
 -- `record_byte`: the offset's quotient steps over units, its remainder over records; `stepping` says this is the record's byte. Assumes nothing.
 use mathlib.Core.Path.{sym}
 use native.Mathlib.Omega.{arith}
-use borrow.Author.Rules.{rules}
 use Rattle.law_basic.specs.Geometry.{ranged, spare_len_lem}
 use Rattle.disk_stored.specs.Stored.{stepping}
 use Rattle.disk_stored.proofs.record_byte.Goals as goal

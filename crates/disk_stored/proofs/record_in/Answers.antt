@@ -2,7 +2,6 @@
 use mathlib.Core.Path.{sym, ap, ap₂, ◌∙◌}
 use Prim.Native.Nat.{ℕ}
 use native.Mathlib.Omega.{arith}
-use borrow.Author.Rules.{rules}
 use Rattle.spec.specs.Bytes.{part}
 use Rattle.spec.specs.Layout.{record_of_of}
 use Rattle.law_basic.specs.Geometry.{ranged, spare_len_lem}

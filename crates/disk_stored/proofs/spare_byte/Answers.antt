@@ -2,7 +2,6 @@
 use mathlib.Core.Path.{ap}
 use Prim.Native.Nat.{ℕ, ◌+◌}
 use native.Mathlib.Omega.{arith}
-use borrow.Author.Rules.{rules}
 use Rattle.spec.specs.Params.{unit_len}
 use Rattle.law_basic.specs.Geometry.{ranged, image_high}
 use Rattle.disk_stored.proofs.spare_byte.Goals as goal

@@ -1,8 +1,7 @@
 -- `empty_zones`: the fewest so far and those of the drives from d on come to the fewest of all and of most. Assumes nothing.
 use mathlib.Core.Path.{◌≡◌, sym, ap, ◌∙◌}
 use mathlib.Core.List.{map}
-use mathlib.Core.Logic.{⊎_elim}
-use Prim.Native.Nat.{ℕ, ◌+◌, ◌-◌, ◌≤◌, min}
+use Prim.Native.Nat.{ℕ, ◌+◌, ◌-◌, min}
 use native.Mathlib.Omega.{arith}
 use Rattle.spec.specs.Lists.{up_from, below, tally, least}
 use Rattle.disk_zones.specs.Empty.{free_by, empty_count_holds, min_least, least_start, empty_least_turn, least_end}

@@ -2,7 +2,7 @@
 -- The loop ends at n = most or at z = 0, and then that minimum is n. Assumes nothing.
 use mathlib.Core.Path.{◌≡◌, sym, ap, ◌∙◌}
 use mathlib.Core.Bool.{Bool}
-use Prim.Native.Nat.{ℕ, ◌+◌, ◌-◌, min, ◌≤◌}
+use Prim.Native.Nat.{ℕ, ◌+◌, ◌-◌, min}
 use native.Mathlib.Omega.{arith}
 use Rattle.spec.specs.Lists.{below, up_from, keep, tally}
 use Rattle.law_basic.specs.Ranges.{tally-below_hit, tally-below_miss}

@@ -1,11 +1,8 @@
 -- `free_on`: min(most, n + the free zones below z) is min(most, all of them); such a zone z - 1 moves to n in its turn.
 -- The loop ends at n = most or at z = 0, and then that minimum is n. Assumes nothing.
-use mathlib.Core.Path.{◌≡◌, sym, ap, ◌∙◌}
-use mathlib.Core.Bool.{Bool}
-use Prim.Native.Nat.{ℕ, ◌+◌, ◌-◌, min, ◌≤◌}
-use native.Mathlib.Omega.{arith}
-use Rattle.spec.specs.Lists.{below, up_from, keep, tally}
-use Rattle.law_basic.specs.Ranges.{tally-below_hit, tally-below_miss}
+use mathlib.Core.Path.{◌≡◌}
+use Prim.Native.Nat.{◌+◌, min, ◌≤◌}
+use Rattle.spec.specs.Lists.{below, tally}
 use Rattle.disk_zones.specs.Empty.{free_by}
 use Rattle.disk_zones.proofs.free_on.Given as goal
 

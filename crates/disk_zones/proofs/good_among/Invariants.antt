@@ -1,13 +1,8 @@
 -- `good_among`: those below lo and the n counted are those below z; a good zone z moves to n in its turn. Assumes nothing.
-use mathlib.Core.Path.{◌≡◌, ap, ◌∙◌, subst}
-use mathlib.Core.Bool.{Bool}
-use Prim.Native.Nat.{ℕ, ◌+◌, ◌-◌, ◌≤◌}
-use native.Mathlib.Nat.{add-zero}
-use native.Mathlib.Omega.{arith}
+use mathlib.Core.Path.{◌≡◌}
+use Prim.Native.Nat.{◌+◌, ◌-◌, ◌≤◌}
 use Rattle.spec.specs.Lists.{below, tally}
-use Rattle.law_basic.specs.Geometry.{ranged, offline_within}
-use Rattle.law_basic.specs.Ranges.{tally-below_hit, tally-below_miss}
-use Rattle.disk_zones.specs.Empty.{zero_at, zero_good}
+use Rattle.disk_zones.specs.Empty.{zero_at}
 use Rattle.disk_zones.proofs.good_among.Given as goal
 
 abbrev pub invariant-loop-z : goal.invariant-loop-z

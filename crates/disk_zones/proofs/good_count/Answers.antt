@@ -1,7 +1,7 @@
 -- `good_count`: the fewest so far and those of the drives from d on come to the fewest of all, at most most. Assumes nothing.
 use mathlib.Core.Path.{◌≡◌, sym, ap, ◌∙◌}
 use mathlib.Core.List.{map}
-use Prim.Native.Nat.{ℕ, ◌+◌, ◌-◌, min, ◌≤◌}
+use Prim.Native.Nat.{ℕ, ◌+◌, ◌-◌, min}
 use native.Mathlib.Omega.{arith}
 use Rattle.spec.specs.Drives.{is_good, good_zones, good_count}
 use Rattle.spec.specs.Lists.{up_from, below, tally, least}

@@ -1,12 +1,9 @@
 -- `good_count`: the fewest so far and those of the drives from d on come to the fewest of all, at most most. Assumes nothing.
-use mathlib.Core.Path.{◌≡◌, sym, ap, ◌∙◌}
+use mathlib.Core.Path.{◌≡◌}
 use mathlib.Core.List.{map}
-use Prim.Native.Nat.{ℕ, ◌+◌, ◌-◌, min, ◌≤◌}
-use native.Mathlib.Omega.{arith}
-use Rattle.spec.specs.Drives.{is_good, good_zones, good_count}
+use Prim.Native.Nat.{◌-◌, min, ◌≤◌}
+use Rattle.spec.specs.Drives.{is_good, good_count}
 use Rattle.spec.specs.Lists.{up_from, below, tally, least}
-use Rattle.spec.specs.Params.{drives_of}
-use Rattle.disk_zones.specs.Empty.{min_least, least_start, empty_least_turn, least_end}
 use Rattle.disk_zones.proofs.good_count.Given as goal
 
 abbrev pub invariant-loop-d : goal.invariant-loop-d

@@ -1,9 +1,8 @@
 -- `good_on`: n are the good zones below z. At most of them all are no fewer (`tally_grows`); at z = Z they are all. Assumes nothing.
 use mathlib.Core.Path.{◌≡◌, refl, ap, ◌∙◌}
 use mathlib.Core.Bool.{Bool}
-use Prim.Native.Nat.{ℕ, ◌-◌, min, ◌≤◌}
+use Prim.Native.Nat.{ℕ, min}
 use native.Mathlib.Omega.{arith}
-use borrow.Author.Rules.{rules}
 use Rattle.spec.specs.Drives.{is_good}
 use Rattle.spec.specs.Lists.{below, up_from, keep, tally}
 use Rattle.law_basic.specs.Geometry.{ranged}

@@ -1,14 +1,8 @@
 -- `good_on`: n are the good zones below z. At most of them all are no fewer (`tally_grows`); at z = Z they are all. Assumes nothing.
-use mathlib.Core.Path.{◌≡◌, refl, ap, ◌∙◌}
-use mathlib.Core.Bool.{Bool}
-use Prim.Native.Nat.{ℕ, ◌-◌, min, ◌≤◌}
-use native.Mathlib.Omega.{arith}
-use borrow.Author.Rules.{rules}
+use mathlib.Core.Path.{◌≡◌}
+use Prim.Native.Nat.{◌-◌, ◌≤◌}
 use Rattle.spec.specs.Drives.{is_good}
-use Rattle.spec.specs.Lists.{below, up_from, keep, tally}
-use Rattle.law_basic.specs.Geometry.{ranged}
-use Rattle.law_basic.specs.Ranges.{tally-le}
-use Rattle.disk_zones.specs.Empty.{tally_grows}
+use Rattle.spec.specs.Lists.{below, tally}
 use Rattle.disk_zones.proofs.good_on.Given as goal
 
 abbrev pub invariant-loop-z : goal.invariant-loop-z

@@ -1,17 +1,11 @@
 -- `header_stores`: d headers are stored and left + d = count: the rest under left comes to what all come to under count; drives from d on have room.
 -- One turn stores header d, which leaves the pointers of the other drives. left 0 is the cut end, d = N the end of all. Assumes nothing.
-use mathlib.Core.Path.{◌≡◌, refl, ap, ◌∙◌}
-use Prim.Native.Nat.{ℕ, suc, ◌-◌, ◌≤◌, ◌<◌}
-use native.Mathlib.Omega.{arith}
+use mathlib.Core.Path.{◌≡◌}
+use Prim.Native.Nat.{ℕ, ◌-◌, ◌≤◌, ◌<◌}
 use lib.ListN.{length}
-use Rattle.spec.specs.Drives.{Disk, mk_disk, pointer_of, set_pointer, store_disk, zone_on, zero_spare, header_stores, zones_in}
-use Rattle.spec.specs.Drives.Store.{put}
-use Rattle.spec.specs.Engine.Call.{close}
-use Rattle.spec.specs.Layout.{header_block}
-use Rattle.spec.specs.Params.{capacity, pointers_len, drives_of}
-use Rattle.law_views.specs.Pointers.{pointer_other_drive}
-use Rattle.disk_zones.specs.Made.{StoresLeft, rest_start, rest_turn, rest_cut, rest_done, put_pointers, header_store}
-use Rattle.law_basic.specs.Segs.{low_here}
+use Rattle.spec.specs.Drives.{mk_disk, pointer_of, zone_on}
+use Rattle.spec.specs.Params.{capacity}
+use Rattle.disk_zones.specs.Made.{StoresLeft, header_store}
 use Rattle.disk_zones.proofs.header_stores.Given as goal
 
 abbrev pub invariant-loop-d : goal.invariant-loop-d

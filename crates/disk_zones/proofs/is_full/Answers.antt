@@ -1,10 +1,8 @@
 -- `is_full`: a missing drive makes the or true; else it is the comparison of pointer and capacity. Assumes nothing.
 use mathlib.Core.Path.{sym, ap, ap₂, ◌∙◌}
 use mathlib.Core.Bool.{Bool, ◌||◌}
-use borrow.Author.Rules.{rules}
 use lib.Dec.{eqb}
 use Rattle.spec.specs.Drives.{pointer_of, zone_on}
-use Rattle.spec.specs.Engine.Call.{close}
 use Rattle.spec.specs.Params.{capacity}
 use Rattle.law_basic.specs.Segs.{low_zone}
 use Rattle.disk_zones.proofs.is_full.Goals as goal

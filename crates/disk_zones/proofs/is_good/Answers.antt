@@ -1,7 +1,6 @@
 -- `is_good`: the byte stands at the zone's index in the list. Assumes nothing.
 use mathlib.Core.Path.{ap}
 use Prim.Native.Nat.{ℕ}
-use borrow.Author.Rules.{rules}
 use lib.Dec.{eqb}
 use lib.ListN.{get_or}
 use Rattle.spec.specs.Drives.{is_good}

@@ -1,13 +1,12 @@
 -- `is_sealed`: all drives are missing or full iff those from d on are; one that is not ends it; `sealed-list` says this of the view. Assumes nothing.
-use mathlib.Core.Path.{◌≡◌, sym, ◌∙◌}
+use mathlib.Core.Path.{sym, ◌∙◌}
 use mathlib.Core.Bool.{Bool, ◌||◌}
-use Prim.Native.Nat.{ℕ, ◌-◌, ◌≤◌}
+use Prim.Native.Nat.{ℕ}
 use native.Mathlib.Omega.{arith}
 use lib.Dec.{eqb}
 use borrow.Author.Tests.{not-true, not-false}
 use Rattle.spec.specs.Drives.{pointer_of, zone_on}
-use Rattle.spec.specs.Engine.Call.{close}
-use Rattle.spec.specs.Lists.{up_from, below, all, is_in}
+use Rattle.spec.specs.Lists.{is_in}
 use Rattle.spec.specs.Params.{capacity}
 use Rattle.law_scans.specs.Scans.{all_broken, all_passed, all-ended, all_start}
 use Rattle.disk_zones.specs.Empty.{sealed-list}

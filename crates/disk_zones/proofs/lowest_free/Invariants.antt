@@ -1,12 +1,7 @@
 -- `lowest_free`: the first from z on is the first of all; such a zone z is it, another passes on; at Z there is none. Assumes nothing.
-use mathlib.Core.Path.{◌≡◌, sym, ap, ◌∙◌}
-use mathlib.Core.Bool.{Bool}
-use mathlib.Core.List.{List}
-use Prim.Native.Nat.{ℕ, ◌-◌, ◌≤◌}
-use native.Mathlib.Omega.{arith}
+use mathlib.Core.Path.{◌≡◌}
+use Prim.Native.Nat.{◌-◌, ◌≤◌}
 use Rattle.spec.specs.Lists.{below, up_from, keep, first_or}
-use Rattle.law_basic.specs.Geometry.{ranged}
-use Rattle.law_basic.specs.Ranges.{below-start, first_turn, first_pass, first_end}
 use Rattle.disk_zones.specs.Empty.{free_by}
 use Rattle.disk_zones.proofs.lowest_free.Given as goal
 

@@ -1,16 +1,10 @@
 -- `new_segment`: after d turns the first d zones are the drives' lowest empty good ones and the others 0; after N it is the segment. Assumes nothing.
 -- one more is a zone
-use mathlib.Core.Path.{◌≡◌, sym, ap, ◌∙◌, subst}
-use mathlib.Core.List.{List}
-use Prim.Native.Nat.{ℕ, ◌+◌, ◌-◌, ◌≤◌, ◌<◌}
-use native.Mathlib.Decide.{dec_lt}
-use native.Mathlib.Omega.{arith}
-use lib.ListN.{set}
-use Rattle.spec.specs.Drives.{seg}
+use mathlib.Core.Path.{◌≡◌}
+use Prim.Native.Nat.{ℕ, ◌-◌, ◌≤◌, ◌<◌}
 use Rattle.spec.specs.Lists.{below, keep, first_or}
-use Rattle.law_basic.specs.Geometry.{ranged}
-use Rattle.disk_zones.specs.Empty.{free_by, new_seg_holds}
-use Rattle.law_basic.specs.Segs.{filled_to, filled_none, filled_more, filled_with, with_low}
+use Rattle.disk_zones.specs.Empty.{free_by}
+use Rattle.law_basic.specs.Segs.{filled_to}
 use Rattle.disk_zones.proofs.new_segment.Given as goal
 
 abbrev pub invariant-loop-d : goal.invariant-loop-d

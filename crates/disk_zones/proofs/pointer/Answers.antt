@@ -1,10 +1,8 @@
 -- `pointer`: the four bytes at `pointer_byte` are what the definition reads. Assumes nothing.
 use mathlib.Core.Path.{ap, ◌∙◌}
 use Prim.Native.Nat.{ℕ}
-use borrow.Author.Rules.{rules}
 use Rattle.spec.specs.Bytes.{be_of, part}
 use Rattle.spec.specs.Drives.{pointer_of}
-use Rattle.spec.specs.Engine.Call.{close}
 use Rattle.disk_zones.proofs.pointer.Goals as goal
 
 pub returns : goal.returns

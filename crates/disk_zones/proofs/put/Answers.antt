@@ -3,11 +3,9 @@ use mathlib.Core.Path.{◌≡◌, sym, ap, ap₂, ◌∙◌}
 use mathlib.Core.List.{List, ◌++◌}
 use Prim.Native.Nat.{ℕ, suc, ◌+◌, ◌≤◌}
 use native.Mathlib.Omega.{arith}
-use borrow.Author.Rules.{rules}
 use lib.ListN.{length}
 use Rattle.spec.specs.Bytes.{splice}
 use Rattle.spec.specs.Drives.{pointer_of, set_pointer}
-use Rattle.spec.specs.Engine.Call.{close}
 use Rattle.spec.specs.Params.{unit_len, place_of, place_byte}
 use Rattle.law_basic.specs.Geometry.{ranged, capacity_high}
 use Rattle.law_basic.specs.Splice.{splice_next}

@@ -3,11 +3,9 @@ use mathlib.Core.Path.{◌≡◌, sym, ap, ap₂, ◌∙◌}
 use mathlib.Core.List.{◌++◌}
 use Prim.Native.Nat.{ℕ, suc, ◌+◌, ◌-◌}
 use native.Mathlib.Omega.{arith}
-use borrow.Author.Rules.{rules}
 use lib.ListN.{length, take, drop}
 use Rattle.spec.specs.Bytes.{splice}
 use Rattle.spec.specs.Drives.{pointer_of, set_pointer, zero_spare, zones_in}
-use Rattle.spec.specs.Engine.Call.{close}
 use Rattle.spec.specs.Layout.{header_block}
 use Rattle.spec.specs.Params.{place_of, place_byte}
 use Rattle.law_basic.specs.Geometry.{ranged, capacity_high}

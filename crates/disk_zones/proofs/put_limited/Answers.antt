@@ -1,9 +1,7 @@
 -- `put_limited`: count 0: none of one store, cut; else the one store is made and count - 1 is left. Assumes nothing.
 use native.Mathlib.Omega.{arith}
-use borrow.Author.Rules.{rules}
 use Rattle.spec.specs.Drives.{mk_disk}
 use Rattle.spec.specs.Drives.Store.{put}
-use Rattle.spec.specs.Engine.Call.{close}
 use Rattle.disk_zones.specs.Made.{storing_one-cut, storing_one}
 use Rattle.disk_zones.proofs.put_limited.Goals as goal
 

@@ -1,15 +1,12 @@
 -- `reset_stores`: d zones are reset and left + d = count: the rest under left comes to what all come to under count, whatever the image.
 -- One turn resets the zone on drive d. left 0 is the cut end, d = N the end of all. Assumes nothing.
-use mathlib.Core.Path.{◌≡◌, refl, ap, ◌∙◌}
-use mathlib.Core.List.{List}
-use Prim.Native.Nat.{ℕ, ◌-◌}
+use mathlib.Core.Path.{refl, ap, ◌∙◌}
+use Prim.Native.Nat.{ℕ}
 use native.Mathlib.Omega.{arith}
-use lib.ListN.{length}
 use Rattle.spec.specs.Drives.{mk_disk, store_disk, reset_stores}
 use Rattle.spec.specs.Drives.Store.{reset}
-use Rattle.spec.specs.Engine.Call.{close}
 use Rattle.spec.specs.Params.{drives_of}
-use Rattle.disk_zones.specs.Made.{StoresLeft, rest_start, rest_turn, rest_cut, rest_done, reset_disk, reset_store}
+use Rattle.disk_zones.specs.Made.{rest_start, rest_turn, rest_cut, rest_done, reset_disk, reset_store}
 use Rattle.law_basic.specs.Segs.{low_here}
 use Rattle.disk_zones.proofs.reset_stores.Goals as goal
 

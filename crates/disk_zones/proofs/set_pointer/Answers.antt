@@ -1,10 +1,8 @@
 -- `set_pointer`: the four bytes written at `pointer_byte` are the definition's splice. Assumes nothing.
 use mathlib.Core.Path.{ap, ◌∙◌}
 use Prim.Native.Nat.{ℕ}
-use borrow.Author.Rules.{rules}
 use Rattle.spec.specs.Bytes.{to_be, splice}
 use Rattle.spec.specs.Drives.{set_pointer}
-use Rattle.spec.specs.Engine.Call.{close}
 use Rattle.disk_zones.proofs.set_pointer.Goals as goal
 
 pub returns : goal.returns

@@ -1,9 +1,7 @@
 -- `bytes_past`: bad is how many of the first i bytes are out of range, at most i; one turn adds byte at + i, which is its own number. Assumes nothing.
-use mathlib.Core.Path.{◌≡◌, ap, ◌∙◌}
-use native.Mathlib.Omega.{arith}
-use Prim.Native.Nat.{ℕ, ◌+◌, ◌*◌, ◌-◌, ◌≤◌}
-use Rattle.mem_bounds.specs.Bounds.{past_in, past_none, past_one, past_all}
-use Rattle.law_basic.specs.Le.{le_of_part-one}
+use mathlib.Core.Path.{◌≡◌}
+use Prim.Native.Nat.{◌-◌, ◌≤◌}
+use Rattle.mem_bounds.specs.Bounds.{past_in}
 use Rattle.mem_bounds.proofs.bytes_past.Given as goal
 
 abbrev pub invariant-loop-i : goal.invariant-loop-i

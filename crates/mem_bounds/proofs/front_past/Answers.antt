@@ -9,7 +9,6 @@ use Rattle.spec.specs.Bytes.{le_of, part}
 use Rattle.law_basic.specs.Geometry.{ranged}
 use Rattle.law_basic.specs.Le.{le_of_part-one}
 use Rattle.mem_bounds.specs.Bounds.{other, past, bounds_above, front_past}
-use borrow.Author.Rules.{rules}
 use Rattle.mem_bounds.proofs.front_past.Goals as goal
 
 pub bounds-bytes-0 : goal.bounds-bytes-0

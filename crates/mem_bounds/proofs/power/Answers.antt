@@ -4,7 +4,6 @@ use native.Mathlib.Omega.{arith}
 use Prim.Native.Nat.{◌^◌, ◌≤◌}
 use native.Mathlib.Nat.{one-mul, mod-eq_of_lt, pow-le-pow_right}
 use lib.Dec.{lit<}
-use borrow.Author.Rules.{rules}
 use Rattle.mem_bounds.proofs.power.Goals as goal
 
 pub returns : goal.returns

@@ -6,7 +6,6 @@ use Rattle.mem_codec.specs.Codec.{state_len_lem}
 use Rattle.spec.specs.Params.{data_count}
 use Rattle.law_basic.specs.Geometry.{ranged}
 use Rattle.mem_bounds.specs.Bounds.{past_in, slots_past}
-use borrow.Author.Rules.{rules}
 use Rattle.mem_bounds.proofs.slots_past.Goals as goal
 
 pub overflow_cast-p : goal.overflow_cast-p

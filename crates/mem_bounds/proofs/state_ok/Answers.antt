@@ -6,7 +6,6 @@ use lib.Dec.{eqb}
 use Rattle.mem_codec.specs.Codec.{state_len_lem}
 use Rattle.law_basic.specs.Geometry.{ranged}
 use Rattle.mem_bounds.specs.Bounds.{state_in_holds}
-use borrow.Author.Rules.{rules}
 use Rattle.mem_bounds.proofs.state_ok.Goals as goal
 
 pub overflow_cast-p : goal.overflow_cast-p

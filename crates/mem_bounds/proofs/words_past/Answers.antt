@@ -1,8 +1,8 @@
 -- `words_past`: bad is how many of the first i words are out of range, at most i; one turn adds the word at at + 4 * i. Assumes nothing.
-use mathlib.Core.Path.{◌≡◌, ap, ◌∙◌}
+use mathlib.Core.Path.{ap, ◌∙◌}
 use native.Mathlib.Omega.{arith}
-use Prim.Native.Nat.{ℕ, ◌+◌, ◌-◌, ◌≤◌}
-use Rattle.mem_bounds.specs.Bounds.{past_in, past_none, past_one, past_all}
+use Prim.Native.Nat.{ℕ, ◌+◌}
+use Rattle.mem_bounds.specs.Bounds.{past_none, past_one, past_all}
 use Rattle.mem_bounds.proofs.words_past.Goals as goal
 
 pub loop-i-init : goal.loop-i-init

@@ -3,7 +3,6 @@ use Prim.Native.Nat.{ℕ, ◌+◌, ◌-◌, ◌*◌, ◌/◌, ◌≤◌, ◌<◌
 use Rattle.spec.specs.Params.{most_with, most_addresses}
 use Rattle.law_basic.specs.Geometry.{ranged, prod_le}
 use Rattle.mem_calls.specs.Listed.{segment_low, stops_high, stops_enough}
-use borrow.Author.Rules.{rules}
 use mathlib.Core.Path.{sym, subst}
 use native.Mathlib.Omega.{arith}
 use Rattle.mem_calls.proofs.enough.Goals as goal

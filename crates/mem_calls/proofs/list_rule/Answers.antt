@@ -2,7 +2,6 @@
 use Prim.Native.Nat.{ℕ}
 use Rattle.spec.specs.Drives.{few_good, above_narrow}
 use Rattle.mem_calls.specs.Listed.{few_by, narrow_by, list_few, list_narrow, list_fits}
-use borrow.Author.Rules.{rules}
 use lib.Dec.{ltb}
 use mathlib.Core.Path.{◌≡◌, sym, ap, ◌∙◌}
 use Rattle.mem_calls.proofs.list_rule.Goals as goal

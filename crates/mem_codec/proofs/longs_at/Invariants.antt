@@ -1,11 +1,9 @@
 -- `longs_at`: after i turns the first i numbers are read. Assumes nothing.
-use mathlib.Core.Path.{◌≡◌, refl}
+use mathlib.Core.Path.{◌≡◌}
 use mathlib.Core.List.{◌++◌}
 use Prim.Native.Nat.{◌-◌, ◌≤◌}
-use native.Mathlib.Omega.{arith}
 use lib.ListN.{drop, replicate}
 use Rattle.spec.specs.Memory.{numbers_at}
-use Rattle.mem_codec.specs.Codec.{read_none, read_one, read_all}
 use Rattle.mem_codec.proofs.longs_at.Given as goal
 
 abbrev pub invariant-loop-i : goal.invariant-loop-i

@@ -1,10 +1,7 @@
 -- `many_words_at`: out is the first i numbers, then zeros; one turn puts number i as `read_le32` reads it; at 64 no zero is left. Assumes nothing.
-use mathlib.Core.Path.{◌≡◌, refl}
-use mathlib.Core.List.{◌++◌}
-use Prim.Native.Nat.{◌-◌, ◌≤◌}
+use mathlib.Core.Path.{refl}
 use native.Mathlib.Omega.{arith}
-use lib.ListN.{drop, replicate}
-use Rattle.spec.specs.Memory.{numbers_at}
+use lib.ListN.{replicate}
 use Rattle.mem_codec.specs.Codec.{read_none, read_one, read_all}
 use Rattle.mem_codec.proofs.many_words_at.Goals as goal
 

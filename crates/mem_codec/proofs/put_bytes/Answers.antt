@@ -3,7 +3,6 @@ use native.Mathlib.Omega.{arith}
 use mathlib.Core.Path.{sym, ap, ◌∙◌}
 use Rattle.spec.specs.Bytes.{splice}
 use Rattle.mem_codec.specs.Codec.{bytes_same}
-use borrow.Author.Rules.{rules}
 use Rattle.mem_codec.proofs.put_bytes.Goals as goal
 
 pub returns : goal.returns

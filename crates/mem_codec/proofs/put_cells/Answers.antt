@@ -6,7 +6,6 @@ use Rattle.spec.specs.Bytes.{to_le, splice}
 use Rattle.spec.specs.Lists.{flat, total}
 use Rattle.spec.specs.Memory.{state_sections, section_len}
 use Rattle.mem_codec.specs.Edits.{edit_written, written_all_of}
-use borrow.Author.Rules.{rules}
 use Rattle.mem_codec.proofs.put_cells.Goals as goal
 
 pub returns : goal.returns

@@ -5,7 +5,6 @@ use Rattle.spec.specs.Lists.{total}
 use Rattle.spec.specs.Memory.{state_sections, section_len}
 use Rattle.mem_codec.specs.Changes.{number_written}
 use Rattle.mem_codec.specs.Edits.{edit_written, written_all_of}
-use borrow.Author.Rules.{rules}
 use Rattle.mem_codec.proofs.put_counts.Goals as goal
 
 pub returns : goal.returns

@@ -1,10 +1,7 @@
 -- `put_words`: after i turns the bytes of the first i numbers stand from at on; one turn appends the 4 of number i. Assumes nothing.
-use mathlib.Core.Path.{◌≡◌, refl, ◌∙◌}
-use Prim.Native.Nat.{◌-◌, ◌≤◌}
+use mathlib.Core.Path.{refl, ◌∙◌}
 use native.Mathlib.Omega.{arith}
-use lib.ListN.{length, take}
-use Rattle.spec.specs.Bytes.{to_le, splice}
-use Rattle.spec.specs.Lists.{flat}
+use Rattle.spec.specs.Bytes.{to_le}
 use Rattle.law_basic.specs.Le.{length-to_le}
 use Rattle.mem_codec.specs.Codec.{written_none, written_one, written_all}
 use Rattle.mem_codec.proofs.put_words.Goals as goal

@@ -1,12 +1,9 @@
 -- `put_words`: after i turns the bytes of the first i numbers stand from at on; one turn appends the 4 of number i. Assumes nothing.
-use mathlib.Core.Path.{◌≡◌, refl, ◌∙◌}
+use mathlib.Core.Path.{◌≡◌}
 use Prim.Native.Nat.{◌-◌, ◌≤◌}
-use native.Mathlib.Omega.{arith}
 use lib.ListN.{length, take}
 use Rattle.spec.specs.Bytes.{to_le, splice}
 use Rattle.spec.specs.Lists.{flat}
-use Rattle.law_basic.specs.Le.{length-to_le}
-use Rattle.mem_codec.specs.Codec.{written_none, written_one, written_all}
 use Rattle.mem_codec.proofs.put_words.Given as goal
 
 abbrev pub invariant-loop-i : goal.invariant-loop-i

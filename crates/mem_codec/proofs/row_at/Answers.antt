@@ -5,7 +5,6 @@ use Rattle.mem_codec.specs.Codec.{state_len_lem}
 use Rattle.mem_codec.specs.Eighths.{row_read}
 use Rattle.law_basic.specs.Le.{le_of_part-one}
 use native.Mathlib.Omega.{arith}
-use borrow.Author.Rules.{rules}
 use Rattle.mem_codec.proofs.row_at.Goals as goal
 
 pub longs_at-addresses-requires : goal.longs_at-addresses-requires

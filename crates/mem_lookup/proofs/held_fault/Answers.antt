@@ -2,7 +2,6 @@
 use Rattle.law_basic.specs.Geometry.{ranged}
 use Rattle.disk_holders.specs.Held.{is_one_of}
 use Rattle.mem_lookup.specs.Places.{fault_outside, fault_past, fault_bad, place_fault_none}
-use borrow.Author.Rules.{rules}
 use mathlib.Core.Path.{sym, ap, ◌∙◌}
 use native.Mathlib.Omega.{arith}
 use Rattle.mem_lookup.proofs.held_fault.Goals as goal

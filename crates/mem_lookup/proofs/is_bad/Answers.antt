@@ -2,7 +2,6 @@
 use Prim.Native.Nat.{ℕ}
 use Rattle.spec.specs.Drives.{pointer_of}
 use Rattle.mem_lookup.specs.Places.{bad_header, bad_footer, bad_data_holds}
-use borrow.Author.Rules.{rules}
 use lib.Dec.{leb}
 use mathlib.Core.Bool.{true, false}
 use mathlib.Core.Path.{sym, ap, ◌∙◌}

@@ -2,7 +2,6 @@
 use Rattle.spec.specs.Lists.{is_in}
 use Rattle.law_views.specs.Looked.{found_nowhere, found_away, found_here}
 use Rattle.mem_lookup.specs.Lies.{place_entry_within}
-use borrow.Author.Rules.{rules}
 use mathlib.Core.Path.{sym, ap, ◌∙◌}
 use Rattle.mem_lookup.proofs.lies.Goals as goal
 

@@ -9,7 +9,6 @@ use Rattle.spec.specs.Memory.{compact_at, shown_at}
 use Rattle.spec.specs.Params.{image_len, compact_len}
 use Rattle.law_basic.specs.Geometry.{ranged, compact_within, compact_high}
 use Rattle.mem_lookup.specs.Shown.{shows, shown-list, search_hit, search_miss, search_end, shows_entry, shows-past, row_entry, group_first_low}
-use borrow.Author.Rules.{rules}
 use borrow.Author.Tests.{eq-eqb, ne_eqb}
 use lib.Dec.{eqb}
 use lib.ListN.{length, get_or}

@@ -1,7 +1,6 @@
 -- `add_mark`: `with_drive` puts bit k % 8 into byte k / 8, as the definition does. Assumes nothing.
 use Prim.Native.Nat.{◌/◌}
 use Rattle.mem_marks.specs.Marks.{with_mark}
-use borrow.Author.Rules.{rules}
 use lib.ListN.{set}
 use mathlib.Core.Path.{ap}
 use Rattle.mem_marks.proofs.add_mark.Goals as goal

@@ -1,5 +1,5 @@
 -- `count_bytes`: n is how many numbers of the bytes a to i - 1 are marked; one turn adds the ones of byte i (`byte_more`). Assumes nothing.
-use Prim.Native.Nat.{ℕ, ◌+◌, ◌-◌, ◌*◌, ◌≤◌}
+use Prim.Native.Nat.{ℕ, ◌+◌, ◌-◌, ◌*◌}
 use Rattle.spec.specs.Lists.{up_from, keep}
 use Rattle.mem_marks.specs.Marks.{is_marked, kept_nothing, byte_more}
 use lib.ListN.{length}

@@ -1,12 +1,11 @@
 -- `count_few`: n plus those marked from k on is all that are marked from lo on; a marked k moves to n in its turn. Assumes nothing.
-use Prim.Native.Nat.{ℕ, ◌+◌, ◌-◌, ◌≤◌}
+use Prim.Native.Nat.{ℕ, ◌-◌}
 use Rattle.spec.specs.Lists.{up_from, keep}
 use Rattle.mem_marks.specs.Marks.{is_marked}
 use Rattle.law_scans.specs.Scans.{kept-one, kept_none, kept-ended}
 use lib.ListN.{length}
 use mathlib.Core.Bool.{Bool}
-use mathlib.Core.Logic.{⊎_elim}
-use mathlib.Core.Path.{◌≡◌, sym, ◌∙◌}
+use mathlib.Core.Path.{sym, ◌∙◌}
 use native.Mathlib.Nat.{zero-add}
 use native.Mathlib.Omega.{arith}
 use Rattle.mem_marks.proofs.count_few.Goals as goal

@@ -1,7 +1,6 @@
 -- `count_marks`: no whole byte: one count; else the range is split at 8 * a and 8 * b and the three counts add up (`kept_split`). Assumes nothing.
 use Prim.Native.Nat.{ℕ, ◌+◌, ◌*◌, ◌/◌}
 use Rattle.mem_marks.specs.Marks.{is_marked, kept_split}
-use borrow.Author.Rules.{rules}
 use mathlib.Core.Bool.{Bool}
 use native.Mathlib.Omega.{arith}
 use Rattle.mem_marks.proofs.count_marks.Goals as goal

@@ -2,7 +2,6 @@
 use Prim.Native.Nat.{◌-◌, ◌<◌}
 use Rattle.mem_marks.specs.Marks.{with_mark, within_above}
 use Rattle.mem_tables.specs.Tables.{is_within}
-use borrow.Author.Rules.{rules}
 use borrow.Author.Tests.{le-leb, lt-leb, lt-ltb}
 use lib.Dec.{ltb}
 use mathlib.Core.Bool.{Bool, true, cond, ◌&&◌}

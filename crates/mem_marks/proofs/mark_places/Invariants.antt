@@ -1,12 +1,10 @@
 -- `mark_places`: after a turns a place within is marked iff it was or one of the first a addresses has it; one turn adds that of address a. Assumes nothing.
-use Prim.Native.Nat.{ℕ, ◌+◌, ◌-◌, ◌≤◌, ◌<◌}
-use Rattle.mem_marks.specs.Marks.{is_marked, with_mark, is_pointed, no_pointed, turned}
-use Rattle.mem_tables.specs.Tables.{is_within, count_places, bit_le, count_no_places, count-one, count-le}
+use Prim.Native.Nat.{ℕ, ◌-◌, ◌≤◌, ◌<◌}
+use Rattle.mem_marks.specs.Marks.{is_marked, is_pointed}
+use Rattle.mem_tables.specs.Tables.{count_places}
 use lib.ListN.{length}
-use mathlib.Core.Bool.{Bool, cond, ◌||◌}
-use mathlib.Core.Path.{◌≡◌, refl, sym, ap, ap₂, ◌∙◌}
-use mir.Val.{bool_byte}
-use native.Mathlib.Omega.{arith}
+use mathlib.Core.Bool.{◌||◌}
+use mathlib.Core.Path.{◌≡◌}
 use Rattle.mem_marks.proofs.mark_places.Given as goal
 
 abbrev pub invariant-loop-a : goal.invariant-loop-a

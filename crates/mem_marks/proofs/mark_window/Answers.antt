@@ -1,7 +1,6 @@
 -- `mark_window`: cleared marks mark nothing, so that after `mark_places` just the places of the addresses are marked. Assumes nothing.
 use Prim.Native.Nat.{ℕ, ◌-◌}
 use Rattle.mem_marks.specs.Marks.{is_marked, is_pointed, marked_none}
-use borrow.Author.Rules.{rules}
 use lib.ListN.{length}
 use mathlib.Core.Bool.{Bool, ◌||◌, or-false}
 use mathlib.Core.List.{List}

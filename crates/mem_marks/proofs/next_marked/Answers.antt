@@ -1,5 +1,5 @@
 -- `next_marked`: no number from k to i - 1 is marked; a marked i is the answer, else `step_over` passes unmarked ones; at end there is none. Assumes nothing.
-use Prim.Native.Nat.{ℕ, ◌+◌, ◌-◌, ◌≤◌, ◌<◌}
+use Prim.Native.Nat.{ℕ, ◌+◌, ◌≤◌, ◌<◌}
 use Rattle.mem_marks.specs.Marks.{is_marked}
 use mathlib.Core.Bool.{false}
 use mathlib.Core.List.{List}

@@ -1,11 +1,8 @@
 -- `next_marked`: no number from k to i - 1 is marked; a marked i is the answer, else `step_over` passes unmarked ones; at end there is none. Assumes nothing.
-use Prim.Native.Nat.{ℕ, ◌+◌, ◌-◌, ◌≤◌, ◌<◌}
+use Prim.Native.Nat.{ℕ, ◌-◌, ◌≤◌, ◌<◌}
 use Rattle.mem_marks.specs.Marks.{is_marked}
 use mathlib.Core.Bool.{false}
-use mathlib.Core.List.{List}
-use mathlib.Core.Path.{◌≡◌, sym, ◌∙◌}
-use native.Mathlib.Decide.{dec_lt}
-use native.Mathlib.Omega.{arith}
+use mathlib.Core.Path.{◌≡◌}
 use Rattle.mem_marks.proofs.next_marked.Given as goal
 
 abbrev pub invariant-loop-i : goal.invariant-loop-i

@@ -1,6 +1,5 @@
 -- `step_over`: a step of 1 passes only k, which is not marked; a step of 8 passes a byte that is 0, so that it has no marks. Assumes nothing.
 use Rattle.mem_marks.specs.Marks.{byte_empty, unmarked_one}
-use borrow.Author.Rules.{rules}
 use native.Mathlib.Omega.{arith}
 use Rattle.mem_marks.proofs.step_over.Goals as goal
 

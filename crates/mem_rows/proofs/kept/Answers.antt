@@ -1,5 +1,4 @@
 -- `kept`: `no_row` is the eighth of zeros; the answer and the front are copied, the slot is 8. Assumes nothing.
-use borrow.Author.Rules.{rules}
 use Rattle.mem_rows.proofs.kept.Goals as goal
 
 pub returns : goal.returns

@@ -1,12 +1,11 @@
 -- `holds`: what the eighths from i on hold is what any holds; one that does ends it with true, another passes on, none left is false. Assumes nothing.
-use Prim.Native.Nat.{◌+◌, ◌-◌, ◌*◌, ◌≤◌}
+use Prim.Native.Nat.{◌+◌, ◌-◌, ◌*◌}
 use Rattle.spec.specs.Lists.{up_from, any}
 use Rattle.spec.specs.Memory.{holds_at, holds, state_of}
 use Rattle.law_scans.specs.Scans.{any-ended, any-start}
 use Rattle.mem_state.specs.Flights.{eighth_next}
-use borrow.Author.Rules.{rules}
 use mathlib.Core.Bool.{Bool, ◌||◌}
-use mathlib.Core.Path.{◌≡◌, sym, ap, ◌∙◌}
+use mathlib.Core.Path.{sym, ap, ◌∙◌}
 use native.Mathlib.Omega.{arith}
 use Rattle.mem_state.proofs.holds.Goals as goal
 

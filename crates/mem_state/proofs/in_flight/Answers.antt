@@ -5,7 +5,6 @@ use Rattle.spec.specs.Memory.{slot_count, slots, is_free, in_flight}
 use Rattle.law_scans.specs.Scans.{kept-one, kept_none, kept-ended, kept-start}
 use lib.ListN.{length}
 use mathlib.Core.Bool.{Bool, not}
-use mathlib.Core.Logic.{⊎_elim}
 use mathlib.Core.Path.{◌≡◌, sym, ap, ◌∙◌}
 use native.Mathlib.Omega.{arith}
 use Rattle.mem_state.proofs.in_flight.Goals as goal

@@ -1,13 +1,10 @@
 -- `in_flight`: n plus the taken eighths from i on is all of them; a taken eighth i moves to n in its turn. Assumes nothing.
-use Prim.Native.Nat.{ℕ, ◌+◌, ◌-◌, ◌≤◌}
+use Prim.Native.Nat.{◌+◌, ◌-◌, ◌≤◌}
 use Rattle.spec.specs.Lists.{up_from, keep}
-use Rattle.spec.specs.Memory.{slot_count, slots, is_free, in_flight}
-use Rattle.law_scans.specs.Scans.{kept-one, kept_none, kept-ended, kept-start}
+use Rattle.spec.specs.Memory.{is_free, in_flight}
 use lib.ListN.{length}
-use mathlib.Core.Bool.{Bool, not}
-use mathlib.Core.Logic.{⊎_elim}
-use mathlib.Core.Path.{◌≡◌, sym, ap, ◌∙◌}
-use native.Mathlib.Omega.{arith}
+use mathlib.Core.Bool.{not}
+use mathlib.Core.Path.{◌≡◌}
 use Rattle.mem_state.proofs.in_flight.Given as goal
 
 abbrev pub invariant-loop-i : goal.invariant-loop-i

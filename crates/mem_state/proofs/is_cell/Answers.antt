@@ -1,7 +1,6 @@
 -- `is_cell`: the address is read at its place in the bytes, and another one ends it; with the same one the stamp decides. Assumes nothing.
 use Rattle.mem_codec.specs.Codec.{state_len_lem}
 use Rattle.mem_state.specs.Flights.{flight_other_address, flight_same_address}
-use borrow.Author.Rules.{rules}
 use native.Mathlib.Omega.{arith}
 use Rattle.mem_state.proofs.is_cell.Goals as goal
 

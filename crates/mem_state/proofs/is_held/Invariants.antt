@@ -1,15 +1,9 @@
 -- `is_held`: what the cells from k on hold is what the eighth holds; from the first position not filled on they hold nothing. Assumes nothing.
-use Prim.Native.Nat.{ℕ, ◌+◌, ◌-◌, ◌*◌, ◌≤◌, ◌<◌}
-use Rattle.law_basic.specs.Le.{le_of_part-one}
-use Rattle.law_scans.specs.Scans.{any_found, any_passed, any-ended}
-use Rattle.mem_codec.specs.Codec.{state_len_lem}
-use Rattle.mem_state.specs.Flights.{held_in_of, filled_read, filled-cell, empty_rest}
+use Prim.Native.Nat.{◌+◌, ◌-◌, ◌*◌, ◌≤◌}
+use Rattle.mem_state.specs.Flights.{held_in_of}
 use Rattle.spec.specs.Lists.{up_from, any}
-use Rattle.spec.specs.Memory.{filled_in_of, holds_at, state_of}
-use borrow.Author.Rules.{rules}
-use lib.ListN.{length}
-use mathlib.Core.Path.{◌≡◌, sym, ap, ap₂, ◌∙◌}
-use native.Mathlib.Omega.{arith}
+use Rattle.spec.specs.Memory.{holds_at, state_of}
+use mathlib.Core.Path.{◌≡◌}
 use Rattle.mem_state.proofs.is_held.Given as goal
 
 abbrev pub invariant-loop-k : goal.invariant-loop-k

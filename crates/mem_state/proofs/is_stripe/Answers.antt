@@ -1,7 +1,6 @@
 -- `is_stripe`: a free eighth makes the conjunction false; else it is the comparison of the number. Assumes nothing.
 use Prim.Native.Nat.{ℕ}
 use Rattle.spec.specs.Memory.{stripe_in}
-use borrow.Author.Rules.{rules}
 use lib.Dec.{eqb}
 use mathlib.Core.Bool.{Bool, not, ◌&&◌}
 use mathlib.Core.Path.{sym, ap, ap₂, ◌∙◌}

@@ -1,7 +1,5 @@
 -- `slot_of`: i plus the index of the first hit from i on is the answer; a hit at i is it, a miss passes on, at 8 there is none: 8. Assumes nothing.
-use Prim.Native.Nat.{◌+◌, ◌-◌, ◌≤◌}
 use Rattle.spec.specs.Landing.{slot_of}
-use Rattle.spec.specs.Lists.{up_from, index_of}
 use Rattle.spec.specs.Memory.{slot_count, slots, stripe_in, is_free}
 use Rattle.law_basic.specs.Ranges.{found_hit, found_miss, found_end, found-start}
 use lib.Dec.{eqb}

@@ -2,12 +2,10 @@
 use Prim.Native.Nat.{◌+◌, ◌-◌, ◌≤◌}
 use Rattle.spec.specs.Landing.{slot_of}
 use Rattle.spec.specs.Lists.{up_from, index_of}
-use Rattle.spec.specs.Memory.{slot_count, slots, stripe_in, is_free}
-use Rattle.law_basic.specs.Ranges.{found_hit, found_miss, found_end, found-start}
+use Rattle.spec.specs.Memory.{stripe_in, is_free}
 use lib.Dec.{eqb}
 use mathlib.Core.Bool.{not, ◌&&◌}
-use mathlib.Core.Path.{◌≡◌, sym, ◌∙◌}
-use native.Mathlib.Omega.{arith}
+use mathlib.Core.Path.{◌≡◌}
 use Rattle.mem_state.proofs.slot_of.Given as goal
 
 abbrev pub invariant-loop-i : goal.invariant-loop-i

@@ -1,6 +1,5 @@
 -- `stripe_in`: `whole` is the number at index i, which the definition takes. Assumes nothing.
 use Rattle.spec.specs.Memory.{stripe_in}
-use borrow.Author.Rules.{rules}
 use Rattle.mem_state.proofs.stripe_in.Goals as goal
 
 pub returns : goal.returns

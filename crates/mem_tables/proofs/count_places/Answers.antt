@@ -1,5 +1,5 @@
 -- `count_places`: k is how many of the first a addresses lie from lo up to hi, at most a; one turn adds `is_near` of the place of address a. Assumes nothing.
-use Rattle.std.proofs.Common.{◌≡◌, ℕ, ◌+◌, ◌-◌, ◌≤◌, ap, ◌∙◌, ap₂, arith}
+use Rattle.std.proofs.Common.{◌≡◌, ℕ, ◌+◌, ap, ◌∙◌, ap₂, arith}
 use mir.Val.{bool_byte}
 use Rattle.spec.specs.Memory.{place_at_of}
 use Rattle.mem_tables.specs.Tables.{is_within, count_places, bit_le, count_no_places, count-one, count-le}

@@ -1,7 +1,6 @@
 -- `find_place`: the search from a on finds what the search of all finds; a hit is the lowest, a miss passes on, at n there is none. Assumes nothing.
-use Rattle.std.proofs.Common.{◌≡◌, ◌-◌, ◌≤◌, sym, ◌∙◌, arith}
-use Rattle.spec.specs.Memory.{place_at_of}
-use Rattle.mem_tables.specs.Tables.{find_place, find_from, find_start, find_hit, find_miss, find_end}
+use Rattle.std.proofs.Common.{◌≡◌, ◌-◌, ◌≤◌}
+use Rattle.mem_tables.specs.Tables.{find_place, find_from}
 use Rattle.mem_tables.proofs.find_place.Given as goal
 
 abbrev pub invariant-loop-a : goal.invariant-loop-a

@@ -1,6 +1,5 @@
 -- `place_at`: the four bytes at 4 * a are what the definition reads. Assumes nothing.
 use Rattle.spec.specs.Memory.{place_at_of}
-use Rattle.std.proofs.Common.{rules}
 use Rattle.mem_tables.proofs.place_at.Goals as goal
 
 pub returns : goal.returns

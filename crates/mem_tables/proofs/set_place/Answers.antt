@@ -1,6 +1,5 @@
 -- `set_place`: the four bytes written at 4 * a are the definition's splice. Assumes nothing.
 use Rattle.spec.specs.Memory.{set_place}
-use Rattle.std.proofs.Common.{rules}
 use Rattle.mem_tables.proofs.set_place.Goals as goal
 
 pub returns : goal.returns

@@ -1,5 +1,4 @@
 -- `add_stamp`: a missing drive leaves t; on a present one the compact table shows the stripe's offset, and the record there is the stored one. Assumes nothing.
-use borrow.Author.Rules.{rules}
 use mathlib.Core.Path.{◌≡◌, sym, ap, ◌∙◌, subst}
 use mathlib.Core.Bool.{false}
 use Prim.Native.Nat.{ℕ, ◌<◌}

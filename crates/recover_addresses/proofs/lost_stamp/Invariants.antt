@@ -1,14 +1,12 @@
 -- `lost_stamp`: t is the exclusive or of the stamps of the present drives below d; one turn adds that of d, and at N they are all. Assumes nothing.
-use mathlib.Core.Path.{◌≡◌, ap, ◌∙◌}
+use mathlib.Core.Path.{◌≡◌}
 use mathlib.Core.Bool.{not}
 use mathlib.Core.List.{map}
-use Prim.Native.Nat.{ℕ, ◌-◌, ◌≤◌}
-use native.Mathlib.Omega.{arith}
+use Prim.Native.Nat.{◌-◌, ◌≤◌}
 use Rattle.spec.specs.Bytes.{xor_all}
 use Rattle.spec.specs.Drives.{view_of}
 use Rattle.spec.specs.Lists.{below, keep, is_in}
 use Rattle.spec.specs.Segments.{segment_of, stored_rec}
-use Rattle.recover_addresses.specs.Lies.{stamps_none, stamps_turn, stamps_all}
 use Rattle.recover_addresses.proofs.lost_stamp.Given as goal
 
 abbrev pub invariant-loop-d : goal.invariant-loop-d

@@ -1,5 +1,4 @@
 -- `offer`: `told_high` where the address is not below L, `told_fresh` where it has no place, then `told_won` or `told_lost` by who beats whom. Assumes nothing.
-use borrow.Author.Rules.{rules}
 use mathlib.Core.Path.{sym, ◌∙◌, subst}
 use mathlib.Core.List.{List, [], ◌∷◌, ◌++◌}
 use Prim.Native.Nat.{ℕ}

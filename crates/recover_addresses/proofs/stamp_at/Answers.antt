@@ -1,5 +1,4 @@
 -- `stamp_at`: on a missing drive offset is the stripe, and the stamp the exclusive or of the others; on a present one its record lies there. Assumes nothing.
-use borrow.Author.Rules.{rules}
 use mathlib.Core.Path.{◌≡◌, sym, ap, ◌∙◌, subst}
 use mathlib.Core.Bool.{false}
 use Prim.Native.Nat.{ℕ, ◌<◌}

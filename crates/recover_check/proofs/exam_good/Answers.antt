@@ -1,7 +1,6 @@
 -- `exam_good`: each sum of two numbers below 2 ^ 32 fits; sealed or not picks which of them `added` takes. Assumes nothing.
 use mathlib.Core.Path.{sym}
 use Rattle.recover_check.specs.Faults.{added_full, added_open}
-use borrow.Author.Rules.{rules}
 use Rattle.recover_check.proofs.exam_good.Goals as goal
 
 pub returns-then-full : goal.returns-then-full

@@ -1,10 +1,9 @@
 -- `exam_segments`: e is what was seen of the zones below z, none at fault; the first at fault ends it by its number, and at Z all are seen. Assumes nothing.
 use mathlib.Core.Path.{◌≡◌, refl, sym, ap, ◌∙◌, subst}
-use Prim.Native.Nat.{ℕ, ◌-◌, ◌≤◌}
+use Prim.Native.Nat.{ℕ}
 use native.Mathlib.Omega.{arith}
-use lib.ListN.{length}
 use Rattle.spec.specs.Drives.{view_of}
-use Rattle.spec.specs.Lists.{up_from, below, keep, first_or}
+use Rattle.spec.specs.Lists.{first_or}
 use Rattle.disk_gather.specs.Found.{lowest_turn, lowest_pass, lowest_end, lowest_start}
 use Rattle.recover_check.specs.Faults.{faulty, ExamSays, faults_list, seen_none, seen_all, seen_bad, stops, goes}
 use Rattle.recover_check.proofs.exam_segments.Goals as goal

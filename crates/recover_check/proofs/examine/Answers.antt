@@ -1,7 +1,6 @@
 -- `examine`: what `many` says, the flags of repeated serials and the counts of names are made once, and the examination of all zones is the answer. Assumes nothing.
 use mathlib.Core.Path.{refl, ap}
 use native.Mathlib.Omega.{arith}
-use borrow.Author.Rules.{rules}
 use lib.Dec.{leb}
 use Rattle.spec.specs.Drives.{view_of}
 use Rattle.law_basic.specs.Geometry.{ranged, zones_all}

@@ -1,6 +1,5 @@
 -- `base_at`: o less than G behind base keeps base; else base + G is at or below o, and a multiple of G again. Assumes nothing.
 use native.Mathlib.Omega.{arith}
-use borrow.Author.Rules.{rules}
 use Rattle.law_basic.specs.Geometry.{base_next}
 use Rattle.recover_compact.proofs.base_at.Goals as goal
 

@@ -1,7 +1,7 @@
 -- `entries`: the first o entries of the row are those of the zone's records, and base is a multiple of G at or below o; one turn sets entry o. Assumes nothing.
 use mathlib.Core.Path.{◌≡◌, refl, ap, ◌∙◌}
 use mathlib.Core.List.{List, map}
-use Prim.Native.Nat.{ℕ, ◌+◌, ◌-◌, ◌%◌, ◌≤◌}
+use Prim.Native.Nat.{ℕ, ◌+◌}
 use native.Mathlib.Omega.{arith}
 use lib.ListN.{length, set, length-set}
 use Rattle.spec.specs.Bytes.{splice}
@@ -9,7 +9,7 @@ use Rattle.spec.specs.Drives.{Zone, view_of, zone_at}
 use Rattle.spec.specs.Layout.{Rec}
 use Rattle.spec.specs.Lists.{below}
 use Rattle.spec.specs.Params.{pointers_len}
-use Rattle.recover_compact.specs.Compacts.{entry_said, entry_of, entries_turn, entries_none, zero_base}
+use Rattle.recover_compact.specs.Compacts.{entry_said, entry_of_lem, entries_turn, entries_none, zero_base}
 use Rattle.recover_compact.proofs.entries.Goals as goal
 
 pub loop-o-init : goal.loop-o-init
@@ -66,7 +66,7 @@ loop-o-preserved c =
     let loop-test = c.loop-o-test in
     let v : List ℕ → List ℕ → Zone = λ off ps. zone_at (view_of a.p off a.image.now ps) a.drive a.zone in
     let e : (off ps : List ℕ) → length ps ≡ pointers_len a.p → c.entry_near.result ≡ entry_said a.p a.full (v off ps) l.o =
-    λ off ps h. c.entry_near.ensures ∙ entry_of a.p a.full (v off ps) l.o record-in.result.stripe (ap (λ (x : Rec). x.stripe) (record-in.ensures off ps h)) in (
+    λ off ps h. c.entry_near.ensures ∙ entry_of_lem a.p a.full (v off ps) l.o record-in.result.stripe (ap (λ (x : Rec). x.stripe) (record-in.ensures off ps h)) in (
       omega arith,
       omega (arith, base-at.ensures.0),
       base-at.ensures.1,

@@ -1,15 +1,13 @@
 -- `entries`: the first o entries of the row are those of the zone's records, and base is a multiple of G at or below o; one turn sets entry o. Assumes nothing.
-use mathlib.Core.Path.{◌≡◌, refl, ap, ◌∙◌}
+use mathlib.Core.Path.{◌≡◌}
 use mathlib.Core.List.{List, map}
-use Prim.Native.Nat.{ℕ, ◌+◌, ◌-◌, ◌%◌, ◌≤◌}
-use native.Mathlib.Omega.{arith}
-use lib.ListN.{length, set, length-set}
+use Prim.Native.Nat.{ℕ, ◌-◌, ◌%◌, ◌≤◌}
+use lib.ListN.{length}
 use Rattle.spec.specs.Bytes.{splice}
-use Rattle.spec.specs.Drives.{Zone, view_of, zone_at}
-use Rattle.spec.specs.Layout.{Rec}
+use Rattle.spec.specs.Drives.{view_of, zone_at}
 use Rattle.spec.specs.Lists.{below}
 use Rattle.spec.specs.Params.{pointers_len}
-use Rattle.recover_compact.specs.Compacts.{entry_said, entry_of, entries_turn, entries_none, zero_base}
+use Rattle.recover_compact.specs.Compacts.{entry_said}
 use Rattle.recover_compact.proofs.entries.Given as goal
 
 abbrev pub invariant-loop-o : goal.invariant-loop-o

@@ -1,7 +1,6 @@
 -- `entry_near`: for s less than G behind base, a multiple of G, s - base is the entry, by `near`, and below 256; else it is worked out. Assumes nothing.
 use Prim.Native.Nat.{◌-◌}
 use native.Mathlib.Omega.{arith}
-use borrow.Author.Rules.{rules}
 use Rattle.law_basic.specs.Geometry.{ranged}
 use Rattle.recover_compact.specs.Compacts.{near}
 use Rattle.recover_compact.proofs.entry_near.Goals as goal

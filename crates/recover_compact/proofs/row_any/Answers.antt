@@ -2,7 +2,6 @@
 use mathlib.Core.Path.{sym, ap, ◌∙◌, subst}
 use mathlib.Core.List.{List}
 use Prim.Native.Nat.{ℕ, ◌<◌}
-use borrow.Author.Rules.{rules}
 use Rattle.spec.specs.Bytes.{splice}
 use Rattle.spec.specs.Drives.{view_of, zone_at, zone_on}
 use Rattle.spec.specs.Lists.{is_in}

@@ -1,16 +1,10 @@
 -- `rows`: the rows of the drives below d are said (`RowsSaid`); one turn puts the row of drive d in its place. Assumes nothing.
-use mathlib.Core.Path.{◌≡◌, refl, ap, ◌∙◌}
-use mathlib.Core.List.{List, []}
-use mathlib.Core.Bool.{Bool, cond}
+use mathlib.Core.Path.{◌≡◌}
+use mathlib.Core.List.{List}
 use Prim.Native.Nat.{ℕ, ◌-◌, ◌≤◌}
-use native.Mathlib.Omega.{arith}
 use lib.ListN.{length}
-use Rattle.spec.specs.Bytes.{splice}
-use Rattle.spec.specs.Drives.{view_of, zone_at, zone_on}
-use Rattle.spec.specs.Lists.{is_in}
-use Rattle.spec.specs.Memory.{compact_at}
-use Rattle.spec.specs.Segments.{records_in, compact_row}
-use Rattle.recover_compact.specs.Compacts.{RowsSaid, rows_start, rows_turn}
+use Rattle.spec.specs.Drives.{view_of}
+use Rattle.recover_compact.specs.Compacts.{RowsSaid}
 use Rattle.recover_compact.proofs.rows.Given as goal
 
 abbrev pub invariant-loop-d : goal.invariant-loop-d

@@ -1,14 +1,8 @@
 -- `put_group`: what is owed are the lost chunks of the stripes from base + k on; the present drives stay, and with them the index. Assumes nothing.
-use mathlib.Core.Path.{sym, ◌∙◌}
-use mathlib.Core.List.{List, []}
-use Prim.Native.Nat.{ℕ, ◌-◌, ◌<◌}
-use native.Mathlib.Omega.{arith}
+use mathlib.Core.List.{List}
+use Prim.Native.Nat.{ℕ, ◌-◌}
 use Rattle.spec.specs.Drives.{mk_disk}
-use Rattle.spec.specs.Engine.Call.{close}
-use Rattle.spec.specs.History.{before}
-use Rattle.law_basic.specs.Geometry.{ranged}
-use Rattle.recover_groups.specs.Groups.{group_len, GroupReads}
-use Rattle.recover_decode.specs.Group.{Stripes, stripes_start, stripes_done, stripes_fit, stripes_read, stripes_cut, stripes_turn}
+use Rattle.recover_decode.specs.Group.{Stripes}
 use Rattle.recover_decode.proofs.put_group.Given as goal
 
 abbrev pub invariant-loop-k : goal.invariant-loop-k

@@ -1,8 +1,5 @@
 -- `put_groups`: an index has 2048 numbers, for which there is room. Assumes nothing.
 use mathlib.Core.Path.{refl}
-use borrow.Author.Rules.{rules}
-use Rattle.spec.specs.Engine.Call.{close}
-use Rattle.spec.specs.History.{before}
 use Rattle.recover_decode.proofs.put_groups.Goals as goal
 
 pub put_groups_with-requires : goal.put_groups_with-requires

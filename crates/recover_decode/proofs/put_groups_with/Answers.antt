@@ -1,14 +1,10 @@
 -- `put_groups_with`: what is owed are the lost chunks from stripe base on; one turn pays a group, or is cut, and at S nothing is owed. Assumes nothing.
-use mathlib.Core.Path.{◌≡◌, refl, sym, ◌∙◌}
-use mathlib.Core.List.{List, []}
-use Prim.Native.Nat.{ℕ, ◌-◌}
+use mathlib.Core.Path.{refl, sym, ◌∙◌}
+use mathlib.Core.List.{[]}
 use native.Mathlib.Omega.{arith}
-use lib.ListN.{length}
 use Rattle.spec.specs.Drives.{mk_disk}
-use Rattle.spec.specs.Engine.Call.{close}
-use Rattle.spec.specs.History.{before}
 use Rattle.law_basic.specs.Geometry.{ranged}
-use Rattle.recover_decode.specs.Group.{Groups, groups_start, groups_done, groups_fit, groups_full, groups_sound, groups_cut, groups_turn}
+use Rattle.recover_decode.specs.Group.{groups_start, groups_done, groups_fit, groups_full, groups_sound, groups_cut, groups_turn}
 use Rattle.recover_decode.proofs.put_groups_with.Goals as goal
 
 pub loop-base-init : goal.loop-base-init

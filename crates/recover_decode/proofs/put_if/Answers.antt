@@ -4,11 +4,8 @@ use mathlib.Core.List.{List, []}
 use mathlib.Core.Bool.{true, false}
 use Prim.Native.Nat.{ℕ, ◌+◌, ◌<◌}
 use borrow.Author.Tests.{not-true, not-false}
-use borrow.Author.Rules.{rules}
 use native.Mathlib.Omega.{arith}
 use Rattle.spec.specs.Drives.{Store, mk_disk}
-use Rattle.spec.specs.Engine.Call.{close}
-use Rattle.spec.specs.History.{before}
 use Rattle.spec.specs.Segments.{counts}
 use Rattle.law_basic.specs.Geometry.{ranged}
 use Rattle.disk_zones.specs.Made.{Storing, storing_none}

@@ -2,12 +2,9 @@
 use mathlib.Core.Path.{sym}
 use mathlib.Core.List.{List}
 use Prim.Native.Nat.{ℕ}
-use borrow.Author.Rules.{rules}
 use native.Mathlib.Omega.{arith}
 use lib.ListN.{replicate}
 use lib.Seq.{length-take-le}
-use Rattle.spec.specs.Engine.Call.{close}
-use Rattle.spec.specs.History.{before}
 use Rattle.law_basic.specs.Geometry.{ranged}
 use Rattle.recover_decode.proofs.put_lost.Goals as goal
 

@@ -4,11 +4,8 @@ use Rattle.disk_records.specs.Record.{rec_val}
 use mathlib.Core.Path.{sym, ◌∙◌, subst}
 use mathlib.Core.List.{List, [], ◌∷◌}
 use Prim.Native.Nat.{ℕ, ◌+◌, ◌<◌}
-use borrow.Author.Rules.{rules}
 use Rattle.spec.specs.Drives.{view_of, Store, mk_disk, pointer_of}
 use Rattle.spec.specs.Drives.Store.{put}
-use Rattle.spec.specs.Engine.Call.{close}
-use Rattle.spec.specs.History.{before}
 use Rattle.spec.specs.Layout.{record_bytes}
 use Rattle.spec.specs.Params.{capacity}
 use Rattle.law_basic.specs.Geometry.{spare_len_lem}

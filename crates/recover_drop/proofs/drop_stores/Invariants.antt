@@ -1,15 +1,8 @@
 -- `drop_stores`: what is owed are the resets that the drives still ask for; a turn pays those of the lowest serial, and fewer zones wait. Assumes nothing.
-use mathlib.Core.Path.{sym, ◌∙◌, subst}
-use mathlib.Core.List.{List}
-use mathlib.Core.Bool.{false}
-use Prim.Native.Nat.{◌*◌, ◌<◌}
-use native.Mathlib.Omega.{arith}
-use Rattle.spec.specs.Drives.{Store, mk_disk, view_of}
+use Prim.Native.Nat.{◌*◌}
+use Rattle.spec.specs.Drives.{view_of}
 use Rattle.spec.specs.Lists.{below, tally}
-use Rattle.spec.specs.Params.{offline_len}
-use Rattle.law_basic.specs.Geometry.{ranged}
-use Rattle.disk_zones.specs.Made.{Storing}
-use Rattle.recover_drop.specs.Dropped.{serial_no, untaken_no, drops_are, SerialsLeft, serials-start, serials_done, serials-cut, serials_turn, serials-fewer}
+use Rattle.recover_drop.specs.Dropped.{serial_no, untaken_no, SerialsLeft}
 use Rattle.recover_drop.specs.Rising.{LeastKey}
 use Rattle.recover_drop.proofs.drop_stores.Given as goal
 

@@ -1,7 +1,6 @@
 -- `lowest_untaken`: among the zones below i, best has the lowest serial. Assumes nothing.
 use mathlib.Core.Path.{sym, ◌∙◌, subst}
-use mathlib.Core.Logic.{⊎_elim}
-use Prim.Native.Nat.{ℕ, ◌+◌, ◌-◌}
+use Prim.Native.Nat.{ℕ, ◌+◌}
 use native.Mathlib.Omega.{arith}
 use Rattle.spec.specs.Drives.{view_of}
 use Rattle.spec.specs.Params.{offline_len}

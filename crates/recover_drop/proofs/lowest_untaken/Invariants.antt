@@ -1,12 +1,8 @@
 -- `lowest_untaken`: among the zones below i, best has the lowest serial. Assumes nothing.
-use mathlib.Core.Path.{sym, ◌∙◌, subst}
-use mathlib.Core.Logic.{⊎_elim}
-use Prim.Native.Nat.{ℕ, ◌+◌, ◌-◌}
-use native.Mathlib.Omega.{arith}
+use Prim.Native.Nat.{◌-◌}
 use Rattle.spec.specs.Drives.{view_of}
-use Rattle.spec.specs.Params.{offline_len}
 use Rattle.recover_drop.specs.Dropped.{serial_no, untaken_no}
-use Rattle.recover_drop.specs.Rising.{LeastKey, LeastSo, least_begin, least-all, least_miss, least_hit}
+use Rattle.recover_drop.specs.Rising.{LeastSo}
 use Rattle.recover_drop.proofs.lowest_untaken.Given as goal
 
 abbrev pub invariant-loop-i : goal.invariant-loop-i

@@ -1,6 +1,5 @@
 -- `reset_limited`: count 0: none of one store, cut; else the one reset is made and count - 1 is left. Assumes nothing.
 use native.Mathlib.Omega.{arith}
-use borrow.Author.Rules.{rules}
 use Rattle.spec.specs.Drives.{mk_disk}
 use Rattle.spec.specs.Drives.Store.{reset}
 use Rattle.disk_zones.specs.Made.{storing_one-cut, storing_one, reset_disk}

@@ -1,11 +1,9 @@
 -- `missing_footers`: what is owed are the footers of the drives from d on, whose zones are as found; a turn pays those of d, or is cut. Assumes nothing.
-use Prim.Native.Nat.{ℕ, ◌-◌}
 use Rattle.spec.specs.Drives.{mk_disk}
 use Rattle.law_basic.specs.Geometry.{ranged}
-use Rattle.recover_footers.specs.Feet.{FeetUpto, feet_start, feet_pointer, feet_done, feet_cut, feet_turn}
-use lib.ListN.{length}
-use mathlib.Core.List.{List, []}
-use mathlib.Core.Path.{◌≡◌, refl, ◌∙◌}
+use Rattle.recover_footers.specs.Feet.{feet_start, feet_pointer, feet_done, feet_cut, feet_turn}
+use mathlib.Core.List.{[]}
+use mathlib.Core.Path.{refl, ◌∙◌}
 use native.Mathlib.Omega.{arith}
 use Rattle.law_basic.specs.Segs.{low_here}
 use Rattle.recover_footers.proofs.missing_footers.Goals as goal

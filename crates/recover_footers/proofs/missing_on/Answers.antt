@@ -3,7 +3,6 @@ use Rattle.spec.specs.Drives.{zone_at, mk_disk}
 use Rattle.law_basic.specs.Geometry.{ranged}
 use Rattle.recover_footers.specs.Feet.{lack_fits, lack_stores}
 use Rattle.law_views.specs.Views.{seen}
-use borrow.Author.Rules.{rules}
 use mathlib.Core.List.{[]}
 use native.Mathlib.Omega.{arith}
 use Rattle.recover_footers.proofs.missing_on.Goals as goal

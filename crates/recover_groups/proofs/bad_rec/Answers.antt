@@ -1,7 +1,6 @@
 -- `bad_rec`: below L the stamp decides, by `bad_low`; else whether the address is padding, by `bad_high`. Assumes nothing.
 use mathlib.Core.Path.{sym}
 use native.Mathlib.Omega.{arith}
-use Rattle.spec.specs.History.{before}
 use Rattle.recover_groups.specs.Faulty.{bad_low, bad_high}
 use Rattle.disk_records.specs.Record.{rec_val}
 use Rattle.recover_groups.proofs.bad_rec.Goals as goal

@@ -1,10 +1,8 @@
 -- `chunks`: n and the number of drives with the chunk from d on are that of all; a drive that has it adds 1 to n, and n is at most d. Assumes nothing.
 use mathlib.Core.Path.{◌≡◌, sym, ap, ◌∙◌}
-use mathlib.Core.Logic.{⊎_elim}
 use Prim.Native.Nat.{ℕ, ◌+◌, ◌-◌, ◌≤◌, ◌<◌}
 use native.Mathlib.Omega.{arith}
 use lib.ListN.{length}
-use Rattle.spec.specs.History.{before}
 use Rattle.spec.specs.Lists.{up_from, below, keep}
 use Rattle.spec.specs.Params.{drives_of}
 use Rattle.spec.specs.Segments.{Segment, has_chunk}

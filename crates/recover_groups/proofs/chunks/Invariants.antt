@@ -1,15 +1,9 @@
 -- `chunks`: n and the number of drives with the chunk from d on are that of all; a drive that has it adds 1 to n, and n is at most d. Assumes nothing.
-use mathlib.Core.Path.{◌≡◌, sym, ap, ◌∙◌}
-use mathlib.Core.Logic.{⊎_elim}
+use mathlib.Core.Path.{◌≡◌}
 use Prim.Native.Nat.{ℕ, ◌+◌, ◌-◌, ◌≤◌, ◌<◌}
-use native.Mathlib.Omega.{arith}
 use lib.ListN.{length}
-use Rattle.spec.specs.History.{before}
 use Rattle.spec.specs.Lists.{up_from, below, keep}
-use Rattle.spec.specs.Params.{drives_of}
 use Rattle.spec.specs.Segments.{Segment, has_chunk}
-use Rattle.law_basic.specs.Geometry.{ranged}
-use Rattle.law_scans.specs.Scans.{kept-one, kept_none, kept-ended, kept-start}
 use Rattle.recover_groups.specs.Groups.{group_len, Indexed}
 use Rattle.recover_groups.proofs.chunks.Given as goal
 

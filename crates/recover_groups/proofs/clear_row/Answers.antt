@@ -1,12 +1,10 @@
 -- `clear_row`: the first k numbers of the drive's row are 0, those below the row as before; one turn sets number k to 0. Assumes nothing.
-use mathlib.Core.Path.{◌≡◌, refl, sym, ◌∙◌}
-use Prim.Native.Nat.{ℕ, ◌+◌, ◌-◌, ◌*◌, ◌≤◌, ◌<◌}
+use mathlib.Core.Path.{refl, sym, ◌∙◌}
+use Prim.Native.Nat.{◌+◌, ◌*◌}
 use native.Mathlib.Omega.{arith}
-use lib.ListN.{length, get_or, length-set}
-use Rattle.spec.specs.History.{before}
+use lib.ListN.{length-set}
 use Rattle.law_basic.specs.Geometry.{ranged}
 use Rattle.recover_groups.specs.Entering.{below_set, clear_next}
-use Rattle.recover_groups.specs.Groups.{SameBelow}
 use Rattle.recover_groups.proofs.clear_row.Goals as goal
 
 pub loop-k-init : goal.loop-k-init

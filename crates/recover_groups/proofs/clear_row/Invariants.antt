@@ -1,11 +1,7 @@
 -- `clear_row`: the first k numbers of the drive's row are 0, those below the row as before; one turn sets number k to 0. Assumes nothing.
-use mathlib.Core.Path.{◌≡◌, refl, sym, ◌∙◌}
+use mathlib.Core.Path.{◌≡◌}
 use Prim.Native.Nat.{ℕ, ◌+◌, ◌-◌, ◌*◌, ◌≤◌, ◌<◌}
-use native.Mathlib.Omega.{arith}
-use lib.ListN.{length, get_or, length-set}
-use Rattle.spec.specs.History.{before}
-use Rattle.law_basic.specs.Geometry.{ranged}
-use Rattle.recover_groups.specs.Entering.{below_set, clear_next}
+use lib.ListN.{length, get_or}
 use Rattle.recover_groups.specs.Groups.{SameBelow}
 use Rattle.recover_groups.proofs.clear_row.Given as goal
 

@@ -1,18 +1,16 @@
 -- `counts`: all drives from d on are missing or have the chunk just if all are; one without ends it, and `all_keep` leaves the present ones. Assumes nothing.
-use mathlib.Core.Path.{◌≡◌, sym, ap, ◌∙◌}
+use mathlib.Core.Path.{sym, ap, ◌∙◌}
 use mathlib.Core.Bool.{Bool, ◌||◌}
-use Prim.Native.Nat.{ℕ, ◌+◌, ◌-◌, ◌≤◌, ◌<◌}
+use Prim.Native.Nat.{ℕ, ◌+◌}
 use borrow.Author.Tests.{not-true, not-false}
 use native.Mathlib.Omega.{arith}
-use Rattle.spec.specs.History.{before}
-use Rattle.spec.specs.Lists.{up_from, below, all, is_in}
+use Rattle.spec.specs.Lists.{below, is_in}
 use Rattle.spec.specs.Params.{drives_of, present}
 use Rattle.spec.specs.Segments.{Segment, has_chunk, counts}
 use Rattle.law_basic.specs.Geometry.{ranged}
 use Rattle.law_basic.specs.Ranges.{all_keep}
 use Rattle.law_scans.specs.Scans.{all_broken, all_passed, all-ended, all_start}
 use Rattle.recover_groups.specs.Chunks.{entry_has_chunk}
-use Rattle.recover_groups.specs.Groups.{group_len, Indexed}
 use Rattle.recover_groups.proofs.counts.Goals as goal
 
 pub loop-d-init : goal.loop-d-init

@@ -6,10 +6,8 @@ use borrow.Author.Tests.{le-leb, lt-leb, lt-ltb, le-ltb, eq-eqb, ne_eqb}
 use native.Mathlib.Omega.{arith}
 use lib.Dec.{ltb, eqb}
 use lib.ListN.{get_or}
-use Rattle.spec.specs.History.{before}
 use Rattle.law_basic.specs.Geometry.{ranged}
 use Rattle.recover_groups.specs.Groups.{group_len}
-use borrow.Author.Rules.{rules}
 use Rattle.recover_groups.proofs.enter.Goals as goal
 
 pub returns-then-s-base : goal.returns-then-s-base

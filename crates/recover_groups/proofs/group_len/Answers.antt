@@ -1,9 +1,7 @@
 -- `group_len`: G or what is left from base on, whichever is less; base below S and G at least 1 give the lower bound, G at most 256 the upper. Assumes nothing.
 use native.Mathlib.Omega.{arith}
-use Rattle.spec.specs.History.{before}
 use Rattle.law_basic.specs.Geometry.{ranged}
 use Rattle.recover_groups.specs.Groups.{group_len}
-use borrow.Author.Rules.{rules}
 use Rattle.recover_groups.proofs.group_len.Goals as goal
 
 pub returns-then-p-base : goal.returns-then-p-base

@@ -3,9 +3,7 @@ use mathlib.Core.Path.{ap, ◌∙◌}
 use Prim.Native.Nat.{ℕ}
 use native.Mathlib.Omega.{arith}
 use Rattle.spec.specs.Drives.{zone_at, view_of, data_stored}
-use Rattle.spec.specs.History.{before}
 use Rattle.recover_groups.specs.Chunks.{group-stored_is}
-use borrow.Author.Rules.{rules}
 use Rattle.recover_groups.proofs.group_stored.Goals as goal
 
 pub zone_on-requires : goal.zone_on-requires

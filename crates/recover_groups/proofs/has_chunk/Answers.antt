@@ -1,8 +1,6 @@
 -- `has_chunk`: the number in the index is not 0 just where the segment has the chunk, by `entry_has_chunk`. Assumes nothing.
 use mathlib.Core.Path.{refl}
-use Rattle.spec.specs.History.{before}
 use Rattle.recover_groups.specs.Chunks.{entry_has_chunk}
-use borrow.Author.Rules.{rules}
 use Rattle.recover_groups.proofs.has_chunk.Goals as goal
 
 pub returns : goal.returns

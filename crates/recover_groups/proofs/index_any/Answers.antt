@@ -5,13 +5,11 @@ use mathlib.Core.Bool.{Bool, not, ◌||◌}
 use Prim.Native.Nat.{ℕ, ◌+◌}
 use native.Mathlib.Omega.{arith}
 use Rattle.spec.specs.Drives.{view_of}
-use Rattle.spec.specs.History.{before}
 use Rattle.spec.specs.Segments.{recs_on}
 use Rattle.law_views.specs.Pointers.{index_drive}
 use Rattle.recover_groups.specs.Bases.{group_len_le}
 use Rattle.recover_groups.specs.Chunks.{missing_entry}
 use Rattle.recover_groups.specs.Groups.{group_recs, recs_bad, segment_in}
-use borrow.Author.Rules.{rules}
 use Rattle.recover_groups.proofs.index_any.Goals as goal
 
 pub clear_row-requires : goal.clear_row-requires

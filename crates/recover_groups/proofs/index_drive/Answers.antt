@@ -6,9 +6,7 @@ use Prim.Native.Nat.{ℕ, ◌+◌, ◌-◌, ◌*◌, ◌≤◌, ◌<◌}
 use borrow.Author.Tests.{not-true, not-false}
 use native.Mathlib.Omega.{arith}
 use lib.ListN.{length, get_or, set}
-use borrow.Author.Rules.{rules}
 use Rattle.spec.specs.Drives.{zone_at, view_of, record_in, sealed_in}
-use Rattle.spec.specs.History.{before}
 use Rattle.spec.specs.Layout.{Rec, mk_rec}
 use Rattle.spec.specs.Segments.{recs_on}
 use Rattle.law_basic.specs.Geometry.{ranged}

@@ -1,25 +1,12 @@
 -- `index_drive`: the first i records are entered and none is bad; a bad address or number ends it, else record i is entered as i + 1. Assumes nothing.
-use mathlib.Core.Path.{◌≡◌, refl, sym, ap, ◌∙◌, subst}
+use mathlib.Core.Path.{◌≡◌}
 use mathlib.Core.List.{List}
-use mathlib.Core.Bool.{true, false, not}
-use Prim.Native.Nat.{ℕ, ◌+◌, ◌-◌, ◌*◌, ◌≤◌, ◌<◌}
-use borrow.Author.Tests.{not-true, not-false}
-use native.Mathlib.Omega.{arith}
-use lib.ListN.{length, get_or, set}
-use borrow.Author.Rules.{rules}
-use Rattle.spec.specs.Drives.{zone_at, view_of, record_in, sealed_in}
-use Rattle.spec.specs.History.{before}
-use Rattle.spec.specs.Layout.{Rec, mk_rec}
+use Prim.Native.Nat.{ℕ, ◌-◌, ◌≤◌}
+use lib.ListN.{length}
+use Rattle.spec.specs.Drives.{view_of, sealed_in}
 use Rattle.spec.specs.Segments.{recs_on}
-use Rattle.law_basic.specs.Geometry.{ranged}
-use Rattle.law_basic.specs.Ranges.{not_both}
-use Rattle.law_drives.specs.Tests.{cond_true, cond_false}
-use Rattle.recover_groups.specs.Bases.{group_len_le, group_len_fits}
-use Rattle.recover_groups.specs.Chunks.{group_record}
-use Rattle.recover_groups.specs.Entering.{Entering, entering_start, entering_end, entering_bad_data, entering_bad, entering_next, below_set}
-use Rattle.recover_groups.specs.Groups.{group_len, group_recs, recs_bad, segment_in, Row, SameBelow}
-use Rattle.disk_records.specs.Record.{rec_val}
-use Rattle.law_basic.specs.Segs.{low_zone}
+use Rattle.recover_groups.specs.Entering.{Entering}
+use Rattle.recover_groups.specs.Groups.{group_recs, segment_in, SameBelow}
 use Rattle.recover_groups.proofs.index_drive.Given as goal
 
 abbrev pub invariant-loop-i : goal.invariant-loop-i

@@ -2,13 +2,11 @@
 use mathlib.Core.Path.{◌≡◌, sym, ap, ◌∙◌}
 use mathlib.Core.List.{List}
 use mathlib.Core.Bool.{Bool, true, false, not}
-use Prim.Native.Nat.{ℕ, ◌-◌, ◌≤◌, ◌<◌}
+use Prim.Native.Nat.{ℕ}
 use borrow.Author.Tests.{not-false}
 use native.Mathlib.Omega.{arith}
-use lib.ListN.{length}
 use Rattle.spec.specs.Drives.{view_of, sealed_in}
-use Rattle.spec.specs.History.{before}
-use Rattle.spec.specs.Lists.{up_from, below, any, is_in}
+use Rattle.spec.specs.Lists.{is_in}
 use Rattle.spec.specs.Segments.{Segment, recs_on}
 use Rattle.law_basic.specs.Geometry.{ranged}
 use Rattle.law_basic.specs.Ranges.{not_both}
@@ -17,7 +15,7 @@ use Rattle.recover_groups.specs.Bases.{group_len_le}
 use Rattle.recover_groups.specs.Chunks.{indexed_of}
 use Rattle.recover_groups.specs.Entering.{drive_bad, fault_list, bad_or, rows_next}
 use Rattle.recover_groups.specs.Faulty.{no_group_fault}
-use Rattle.recover_groups.specs.Groups.{group_recs, recs_bad, group_fault, segment_in, Row}
+use Rattle.recover_groups.specs.Groups.{group_recs, recs_bad, group_fault, segment_in}
 use Rattle.recover_groups.proofs.index_group.Goals as goal
 
 pub loop-d-init : goal.loop-d-init

@@ -1,23 +1,13 @@
 -- `index_group`: the drives below d have their rows and none is bad; row d leaves those below it, a bad drive ends it, at N all rows stand. Assumes nothing.
-use mathlib.Core.Path.{◌≡◌, sym, ap, ◌∙◌}
+use mathlib.Core.Path.{◌≡◌}
 use mathlib.Core.List.{List}
-use mathlib.Core.Bool.{Bool, true, false, not}
 use Prim.Native.Nat.{ℕ, ◌-◌, ◌≤◌, ◌<◌}
-use borrow.Author.Tests.{not-false}
-use native.Mathlib.Omega.{arith}
 use lib.ListN.{length}
 use Rattle.spec.specs.Drives.{view_of, sealed_in}
-use Rattle.spec.specs.History.{before}
-use Rattle.spec.specs.Lists.{up_from, below, any, is_in}
-use Rattle.spec.specs.Segments.{Segment, recs_on}
-use Rattle.law_basic.specs.Geometry.{ranged}
-use Rattle.law_basic.specs.Ranges.{not_both}
-use Rattle.law_scans.specs.Scans.{any_found, any_passed, any-ended, any-start}
-use Rattle.recover_groups.specs.Bases.{group_len_le}
-use Rattle.recover_groups.specs.Chunks.{indexed_of}
-use Rattle.recover_groups.specs.Entering.{drive_bad, fault_list, bad_or, rows_next}
-use Rattle.recover_groups.specs.Faulty.{no_group_fault}
-use Rattle.recover_groups.specs.Groups.{group_recs, recs_bad, group_fault, segment_in, Row}
+use Rattle.spec.specs.Lists.{up_from, below, any}
+use Rattle.spec.specs.Segments.{recs_on}
+use Rattle.recover_groups.specs.Entering.{drive_bad}
+use Rattle.recover_groups.specs.Groups.{group_recs, segment_in, Row}
 use Rattle.recover_groups.proofs.index_group.Given as goal
 
 abbrev pub invariant-loop-d : goal.invariant-loop-d

@@ -4,8 +4,6 @@ use mathlib.Core.Bool.{Bool, not, ◌||◌}
 use Prim.Native.Nat.{◌+◌, ◌*◌}
 use lib.Dec.{eqb}
 use lib.ListN.{get_or}
-use Rattle.spec.specs.History.{before}
-use borrow.Author.Rules.{rules}
 use Rattle.recover_groups.proofs.is_there.Goals as goal
 
 pub returns-then-has_drive : goal.returns-then-has_drive

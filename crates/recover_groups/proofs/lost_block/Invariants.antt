@@ -1,19 +1,13 @@
 -- `lost_block`: the first d entries are the offsets of the blocks of present drives; from all of them `decode_block` decodes. Assumes nothing.
-use mathlib.Core.Path.{◌≡◌, refl, sym, ◌∙◌}
+use mathlib.Core.Path.{◌≡◌}
 use mathlib.Core.Bool.{false}
 use mathlib.Core.List.{List}
 use Prim.Native.Nat.{ℕ, ◌+◌, ◌-◌, ◌≤◌, ◌<◌}
-use native.Mathlib.Omega.{arith}
-use borrow.Author.Rules.{rules}
-use lib.ListN.{length, get_or, length-set}
+use lib.ListN.{length, get_or}
 use Rattle.spec.specs.Bytes.{part}
 use Rattle.spec.specs.Lists.{is_in}
 use Rattle.spec.specs.Params.{image_len}
 use Rattle.spec.specs.Segments.{stored_piece}
-use Rattle.law_basic.specs.Each.{set_next}
-use Rattle.law_basic.specs.Geometry.{ranged}
-use Rattle.law_code.specs.Code.{decode_block_same}
-use Rattle.recover_groups.specs.Bases.{group_len_fits}
 use Rattle.recover_groups.specs.Groups.{segment_in, GroupReads}
 use Rattle.recover_groups.proofs.lost_block.Given as goal
 

@@ -1,18 +1,11 @@
 -- `lost_rec`: the first d entries are the addresses and stamps of present drives; from all of them `decode_record` decodes. Assumes nothing.
-use mathlib.Core.Path.{◌≡◌, refl, sym, ap, ◌∙◌}
+use mathlib.Core.Path.{◌≡◌}
 use mathlib.Core.Bool.{false}
 use mathlib.Core.List.{List}
 use Prim.Native.Nat.{ℕ, ◌+◌, ◌-◌, ◌≤◌, ◌<◌}
-use native.Mathlib.Omega.{arith}
-use borrow.Author.Rules.{rules}
-use lib.ListN.{length, get_or, length-set}
-use Rattle.spec.specs.Layout.{Rec, mk_rec}
+use lib.ListN.{length, get_or}
 use Rattle.spec.specs.Lists.{is_in}
 use Rattle.spec.specs.Segments.{stored_rec}
-use Rattle.law_basic.specs.Each.{set_next}
-use Rattle.law_basic.specs.Geometry.{ranged}
-use Rattle.law_code.specs.Code.{decode_rec_same}
-use Rattle.recover_groups.specs.Bases.{group_len_fits}
 use Rattle.recover_groups.specs.Groups.{segment_in, GroupReads}
 use Rattle.recover_groups.proofs.lost_rec.Given as goal
 

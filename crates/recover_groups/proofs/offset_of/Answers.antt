@@ -1,11 +1,9 @@
 -- `offset_of`: a missing drive takes the first branch of `offset_of`, base + k; a present one is entered, and its offset is that of the index. Assumes nothing.
 use mathlib.Core.Path.{sym, ◌∙◌}
 use Prim.Native.Nat.{◌+◌}
-use Rattle.spec.specs.History.{before}
 use Rattle.spec.specs.Lists.{is_in}
 use Rattle.spec.specs.Segments.{offset_on, offset_of}
 use Rattle.law_drives.specs.Tests.{cond_true, cond_false}
-use borrow.Author.Rules.{rules}
 use Rattle.recover_groups.proofs.offset_of.Goals as goal
 
 pub returns-then-has_drive : goal.returns-then-has_drive

@@ -2,9 +2,7 @@
 use mathlib.Core.Path.{refl}
 use Prim.Native.Nat.{◌+◌, ◌*◌}
 use native.Mathlib.Omega.{arith}
-use Rattle.spec.specs.History.{before}
 use Rattle.recover_groups.specs.Chunks.{entered_chunk}
-use borrow.Author.Rules.{rules}
 use Rattle.recover_groups.proofs.offset_on.Goals as goal
 
 pub overflow_cast-result : goal.overflow_cast-result

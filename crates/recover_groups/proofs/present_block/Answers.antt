@@ -1,7 +1,6 @@
 -- `present_block`: a missing drive asks nothing; a present one has its entry. Assumes nothing.
 use mathlib.Core.Path.{◌≡◌, sym, ◌∙◌}
 use mathlib.Core.Bool.{true}
-use borrow.Author.Rules.{rules}
 use Rattle.spec.specs.Lists.{is_in}
 use Rattle.law_basic.specs.Ranges.{not_both}
 use Rattle.law_basic.specs.Segs.{low_zone}

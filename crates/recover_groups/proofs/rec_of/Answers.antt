@@ -1,10 +1,8 @@
 -- `rec_of`: a missing drive takes the first branch of `rec_of`, the exclusive or of the others; a present one has the chunk and its record. Assumes nothing.
 use mathlib.Core.Path.{sym, ◌∙◌}
 use Prim.Native.Nat.{◌+◌}
-use Rattle.spec.specs.History.{before}
 use Rattle.law_code.specs.Chunks.{rec_here, rec_lost}
 use Rattle.recover_groups.specs.Groups.{segment_in}
-use borrow.Author.Rules.{rules}
 use Rattle.law_basic.specs.Segs.{low_zone}
 use Rattle.recover_groups.proofs.rec_of.Goals as goal
 

@@ -2,7 +2,6 @@
 use mathlib.Core.Path.{◌≡◌, refl, sym, ap, ◌∙◌}
 use mathlib.Core.Bool.{Bool, true, false, ◌&&◌}
 use borrow.Author.Tests.{not-true, not-false}
-use borrow.Author.Rules.{rules}
 use Rattle.spec.specs.Faults.{stored_bad}
 use Rattle.spec.specs.Layout.{is_data}
 use Rattle.recover_groups.proofs.stored_bad.Goals as goal

@@ -2,7 +2,6 @@
 use mathlib.Core.Path.{◌∙◌}
 use native.Mathlib.Omega.{arith}
 use Rattle.spec.specs.Drives.{zone_at, view_of, record_in}
-use Rattle.spec.specs.History.{before}
 use Rattle.law_basic.specs.Geometry.{ranged}
 use Rattle.recover_groups.specs.Bases.{group_len_le, group_len_fits}
 use Rattle.recover_groups.specs.Pieces.{record_read}

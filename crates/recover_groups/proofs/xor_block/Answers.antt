@@ -3,13 +3,11 @@ use mathlib.Core.Path.{sym, ap, ◌∙◌}
 use Prim.Native.Nat.{ℕ, ◌+◌}
 use native.Mathlib.Omega.{arith}
 use Rattle.spec.specs.Bytes.{part, xors}
-use Rattle.spec.specs.History.{before}
 use Rattle.spec.specs.Params.{unit_len, place_of, place_byte}
 use Rattle.law_basic.specs.Geometry.{ranged, data_below}
 use Rattle.law_basic.specs.Splice.{part_lent}
 use Rattle.recover_groups.specs.Bases.{group_len_le, group_len_fits}
 use Rattle.recover_groups.specs.Pieces.{block_read}
-use borrow.Author.Rules.{rules}
 use Rattle.recover_groups.proofs.xor_block.Goals as goal
 
 pub zone_on-zone-requires : goal.zone_on-zone-requires

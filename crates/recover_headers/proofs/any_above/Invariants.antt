@@ -1,14 +1,11 @@
 -- `any_above`: some drive from d on is above just if some drive is; one above ends it, and at N none is left. Assumes nothing.
-use mathlib.Core.Path.{◌≡◌, sym, ◌∙◌}
-use mathlib.Core.Bool.{Bool, not, ◌&&◌}
-use Prim.Native.Nat.{ℕ, ◌-◌, ◌≤◌}
-use native.Mathlib.Omega.{arith}
+use mathlib.Core.Path.{◌≡◌}
+use mathlib.Core.Bool.{not, ◌&&◌}
+use Prim.Native.Nat.{◌-◌, ◌≤◌}
 use lib.Dec.{ltb}
 use Rattle.spec.specs.Drives.{pointer_of, is_good}
 use Rattle.spec.specs.Lists.{up_from, below, any, is_in}
 use Rattle.spec.specs.Params.{capacity}
-use Rattle.law_scans.specs.Scans.{any_found, any_passed, any-ended, any-start}
-use Rattle.recover_headers.specs.Fronts.{above_any}
 use Rattle.recover_headers.proofs.any_above.Given as goal
 
 abbrev pub invariant-loop-d : goal.invariant-loop-d

@@ -1,11 +1,11 @@
 -- `count_names`: the names of the drives below d are counted. Assumes nothing.
-use mathlib.Core.Path.{◌≡◌, refl, ap, ◌∙◌}
+use mathlib.Core.Path.{refl, ap, ◌∙◌}
 use mathlib.Core.Bool.{cond, ◌&&◌}
-use Prim.Native.Nat.{ℕ, ◌+◌, ◌-◌, ◌*◌, ◌≤◌, min}
+use Prim.Native.Nat.{ℕ, ◌+◌, ◌*◌, min}
 use native.Mathlib.Omega.{arith}
 use lib.Dec.{eqb}
-use lib.ListN.{length, get_or}
-use Rattle.recover_headers.specs.Names.{CountedOn, counted_start, counted_turn, names_counted-all}
+use lib.ListN.{get_or}
+use Rattle.recover_headers.specs.Names.{counted_start, counted_turn, names_counted-all}
 use Rattle.recover_headers.proofs.count_names.Goals as goal
 
 pub loop-d-init : goal.loop-d-init

@@ -4,7 +4,6 @@ use mathlib.Core.Bool.{Bool, not, ◌&&◌}
 use Prim.Native.Nat.{ℕ}
 use Rattle.spec.specs.Drives.{view_of, zone_at, zone_on}
 use Rattle.spec.specs.Faults.{footer_fault_in}
-use borrow.Author.Rules.{rules}
 use Rattle.law_basic.specs.Segs.{low_zone}
 use Rattle.recover_headers.proofs.drive_footer_fault.Goals as goal
 

@@ -1,6 +1,5 @@
 -- `footer_differs`: a block is at most 4096 bytes, so scratch has room for it. Assumes nothing.
 use Rattle.law_basic.specs.Geometry.{ranged}
-use borrow.Author.Rules.{rules}
 use Rattle.recover_headers.proofs.footer_differs.Goals as goal
 
 pub footer_unlike-requires : goal.footer_unlike-requires

@@ -1,14 +1,11 @@
 -- `footer_fault`: some present drive's zone from d on has a footer fault just if one has; one found ends it; `footer_list` names the zones. Assumes nothing.
-use mathlib.Core.Path.{◌≡◌, sym, ◌∙◌}
-use mathlib.Core.Bool.{Bool, not, ◌&&◌}
+use mathlib.Core.Path.{◌≡◌}
+use mathlib.Core.Bool.{not, ◌&&◌}
 use mathlib.Core.List.{List}
 use Prim.Native.Nat.{ℕ, ◌-◌, ◌≤◌}
-use native.Mathlib.Omega.{arith}
 use Rattle.spec.specs.Lists.{up_from, below, any, is_in}
-use Rattle.law_scans.specs.Scans.{any_found, any_passed, any-ended, any-start}
 use Rattle.spec.specs.Drives.{view_of, zone_at, zone_on}
 use Rattle.spec.specs.Faults.{footer_fault_in}
-use Rattle.recover_headers.specs.Fronts.{footer_list}
 use Rattle.recover_headers.proofs.footer_fault.Given as goal
 
 abbrev pub invariant-loop-d : goal.invariant-loop-d

@@ -14,7 +14,6 @@ use Rattle.law_basic.specs.Geometry.{ranged, footers_high}
 use Rattle.law_basic.specs.Splice.{part_lent}
 use Rattle.law_views.specs.Views.{block_view}
 use Rattle.recover_headers.specs.Fronts.{footer_off}
-use borrow.Author.Rules.{rules}
 use Rattle.recover_headers.proofs.footer_unlike.Goals as goal
 
 pub slice_bounds-make_footer-end-2 : goal.slice_bounds-make_footer-end-2

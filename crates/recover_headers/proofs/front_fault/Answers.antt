@@ -2,7 +2,6 @@
 use mathlib.Core.Path.{◌≡◌, sym, ap, ◌∙◌, subst}
 use mathlib.Core.Bool.{Bool, not, ◌||◌}
 use Prim.Native.Nat.{ℕ, ◌<◌}
-use borrow.Author.Rules.{rules}
 use lib.Dec.{eqb, leb}
 use Rattle.spec.specs.Drives.{view_of, chunk_at, zone_on, seg_with}
 use Rattle.spec.specs.Layout.{header_zone, header_copied}

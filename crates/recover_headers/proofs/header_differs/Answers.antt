@@ -12,7 +12,6 @@ use Rattle.spec.specs.Params.{unit_len, place_of, place_byte}
 use Rattle.law_basic.specs.Geometry.{ranged, capacity-low}
 use Rattle.law_basic.specs.Splice.{part_lent}
 use Rattle.recover_headers.specs.Fronts.{header_off}
-use borrow.Author.Rules.{rules}
 use Rattle.law_basic.specs.Segs.{low_zone}
 use Rattle.recover_headers.proofs.header_differs.Goals as goal
 

@@ -1,9 +1,9 @@
 -- `header_fault`: some present drive's header from d on is off just if one is; one off ends it, and `header_list` makes that the fault. Assumes nothing.
-use mathlib.Core.Path.{◌≡◌, sym, ◌∙◌}
+use mathlib.Core.Path.{sym, ◌∙◌}
 use mathlib.Core.Bool.{Bool, not, ◌&&◌}
-use Prim.Native.Nat.{ℕ, ◌-◌, ◌≤◌}
+use Prim.Native.Nat.{ℕ}
 use native.Mathlib.Omega.{arith}
-use Rattle.spec.specs.Lists.{up_from, below, any, is_in}
+use Rattle.spec.specs.Lists.{is_in}
 use Rattle.law_scans.specs.Scans.{any_found, any_passed, any-ended, any-start}
 use Rattle.recover_headers.specs.Fronts.{header_off, header_list}
 use Rattle.recover_headers.proofs.header_fault.Goals as goal

@@ -1,7 +1,6 @@
 -- `is_above`: a missing drive or an offline zone makes its part false; else both are true, and capacity and pointer are compared. Assumes nothing.
 use mathlib.Core.Path.{sym, ap, ap₂, ◌∙◌}
 use mathlib.Core.Bool.{Bool, not, ◌&&◌}
-use borrow.Author.Rules.{rules}
 use borrow.Author.Tests.{not-true, not-false}
 use lib.Dec.{ltb}
 use Rattle.spec.specs.Drives.{pointer_of, is_good}

@@ -1,10 +1,9 @@
 -- `name_fault`: some drive's name from d on is bad just if one is; one found ends it, and at N none is left. Assumes nothing.
-use mathlib.Core.Path.{◌≡◌, sym, ap, ◌∙◌}
+use mathlib.Core.Path.{sym, ap, ◌∙◌}
 use mathlib.Core.Bool.{Bool}
-use Prim.Native.Nat.{ℕ, ◌-◌, ◌≤◌}
+use Prim.Native.Nat.{ℕ}
 use native.Mathlib.Omega.{arith}
 use Rattle.spec.specs.Drives.{zone_on}
-use Rattle.spec.specs.Lists.{up_from, below, any}
 use Rattle.law_scans.specs.Scans.{any_found, any_passed, any-ended, any-start}
 use Rattle.recover_headers.specs.Names.{name_bad}
 use Rattle.recover_headers.proofs.name_fault.Goals as goal

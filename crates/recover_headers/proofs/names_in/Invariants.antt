@@ -1,14 +1,12 @@
 -- `names_in`: after d turns the first d zones are those named for the first d drives, the others 0; after N it is the segment. Assumes nothing.
-use mathlib.Core.Path.{◌≡◌, ap, ◌∙◌}
+use mathlib.Core.Path.{◌≡◌}
 use mathlib.Core.List.{List}
-use Prim.Native.Nat.{ℕ, ◌-◌, ◌≤◌, ◌<◌}
-use native.Mathlib.Omega.{arith}
-use lib.ListN.{length, set}
-use Rattle.spec.specs.Drives.{view_of, chunk_at, seg}
+use Prim.Native.Nat.{ℕ, ◌-◌, ◌≤◌}
+use lib.ListN.{length}
+use Rattle.spec.specs.Drives.{view_of, chunk_at}
 use Rattle.spec.specs.Layout.{header_zone}
 use Rattle.spec.specs.Params.{pointers_len}
-use Rattle.law_basic.specs.Geometry.{ranged}
-use Rattle.law_basic.specs.Segs.{filled_to, filled_none, filled_more, filled_with}
+use Rattle.law_basic.specs.Segs.{filled_to}
 use Rattle.recover_headers.proofs.names_in.Given as goal
 
 abbrev pub invariant-loop-d : goal.invariant-loop-d

@@ -1,7 +1,6 @@
 -- `not_own`: a missing drive makes the first part false; else it is true, and the two zones are compared. Assumes nothing.
 use mathlib.Core.Path.{sym, ap, ap₂, ◌∙◌}
 use mathlib.Core.Bool.{Bool, not, ◌&&◌}
-use borrow.Author.Rules.{rules}
 use lib.Dec.{eqb}
 use Rattle.spec.specs.Drives.{zone_on}
 use Rattle.recover_headers.proofs.not_own.Goals as goal

@@ -1,13 +1,10 @@
 -- `own_fault`: some present drive from d on has another zone just if one has; one found ends it, and at N none is left. Assumes nothing.
-use mathlib.Core.Path.{◌≡◌, refl, sym, ◌∙◌}
-use mathlib.Core.Bool.{Bool, not, ◌&&◌}
-use Prim.Native.Nat.{ℕ, ◌-◌, ◌≤◌}
-use native.Mathlib.Omega.{arith}
+use mathlib.Core.Path.{◌≡◌}
+use mathlib.Core.Bool.{not, ◌&&◌}
+use Prim.Native.Nat.{◌-◌, ◌≤◌}
 use lib.Dec.{eqb}
 use Rattle.spec.specs.Drives.{zone_on}
 use Rattle.spec.specs.Lists.{up_from, below, any, is_in}
-use Rattle.law_scans.specs.Scans.{any_found, any_passed, any-ended, any-start}
-use Rattle.recover_headers.specs.Fronts.{any-present}
 use Rattle.recover_headers.proofs.own_fault.Given as goal
 
 abbrev pub invariant-loop-d : goal.invariant-loop-d

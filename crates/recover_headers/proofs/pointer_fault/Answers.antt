@@ -1,8 +1,7 @@
 -- `pointer_fault`: the lowest zone with a pointer above from z on is the lowest of all; one found ends it, and at Z there is none. Assumes nothing.
-use mathlib.Core.Path.{◌≡◌, sym, ap, ◌∙◌}
-use Prim.Native.Nat.{◌-◌, ◌≤◌}
+use mathlib.Core.Path.{sym, ap, ◌∙◌}
 use native.Mathlib.Omega.{arith}
-use Rattle.spec.specs.Lists.{up_from, below, keep, first_or}
+use Rattle.spec.specs.Lists.{first_or}
 use Rattle.disk_gather.specs.Found.{lowest_turn, lowest_pass, lowest_end, lowest_start}
 use Rattle.recover_headers.specs.Fronts.{above_by, pointer_list}
 use Rattle.recover_headers.proofs.pointer_fault.Goals as goal

@@ -1,10 +1,8 @@
 -- `pointer_fault`: the lowest zone with a pointer above from z on is the lowest of all; one found ends it, and at Z there is none. Assumes nothing.
-use mathlib.Core.Path.{◌≡◌, sym, ap, ◌∙◌}
+use mathlib.Core.Path.{◌≡◌}
 use Prim.Native.Nat.{◌-◌, ◌≤◌}
-use native.Mathlib.Omega.{arith}
 use Rattle.spec.specs.Lists.{up_from, below, keep, first_or}
-use Rattle.disk_gather.specs.Found.{lowest_turn, lowest_pass, lowest_end, lowest_start}
-use Rattle.recover_headers.specs.Fronts.{above_by, pointer_list}
+use Rattle.recover_headers.specs.Fronts.{above_by}
 use Rattle.recover_headers.proofs.pointer_fault.Given as goal
 
 abbrev pub invariant-loop-z : goal.invariant-loop-z

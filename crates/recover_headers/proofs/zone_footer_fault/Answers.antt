@@ -1,11 +1,11 @@
 -- `zone_footer_fault`: some footer from i on is unlike just if one of the stored n is; one found ends it, and `footer_any` makes it the fault. Assumes nothing.
-use mathlib.Core.Path.{◌≡◌, sym, ap, ◌∙◌}
+use mathlib.Core.Path.{sym, ap, ◌∙◌}
 use mathlib.Core.List.{List}
 use mathlib.Core.Bool.{Bool}
-use Prim.Native.Nat.{ℕ, ◌-◌, ◌≤◌}
+use Prim.Native.Nat.{ℕ}
 use native.Mathlib.Omega.{arith}
 use Rattle.spec.specs.Drives.{Zone, view_of, mk_disk, zone_at}
-use Rattle.spec.specs.Lists.{up_from, below, any}
+use Rattle.spec.specs.Lists.{below, any}
 use Rattle.law_scans.specs.Scans.{any_found, any_passed, any-ended, any-start}
 use Rattle.law_views.specs.Views.{blocks_long}
 use Rattle.recover_headers.specs.Fronts.{footer_off, footer_any}

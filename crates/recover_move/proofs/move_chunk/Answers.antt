@@ -1,7 +1,6 @@
 -- `move_chunk`: a block is at most 4096 bytes, so there is room for it. Assumes nothing.
 use Prim.Native.Nat.{ℕ}
 use Rattle.law_basic.specs.Geometry.{ranged}
-use borrow.Author.Rules.{rules}
 use lib.ListN.{replicate}
 use lib.Seq.{length-take-le}
 use mathlib.Core.List.{List}

@@ -1,14 +1,13 @@
 -- `move_stripe`: what is owed are the chunks of the drives from d on; to is not the segment, which stays as it is; one turn pays d, or is cut. Assumes nothing.
-use Prim.Native.Nat.{ℕ, ◌+◌, ◌-◌}
+use Prim.Native.Nat.{◌+◌, ◌-◌}
 use Rattle.spec.specs.Drives.{mk_disk}
 use Rattle.spec.specs.Lists.{up_from}
 use Rattle.spec.specs.Restart.{moved_stripe}
 use Rattle.recover_groups.specs.Groups.{segment_in}
 use Rattle.law_basic.specs.Geometry.{ranged}
-use Rattle.recover_move.specs.Moves.{moved_to, Moves, moves_reads, row_moves_start, row_done, row_room, row_cut, row_turn}
-use lib.ListN.{length}
-use mathlib.Core.List.{List, [], map}
-use mathlib.Core.Path.{◌≡◌, refl, ◌∙◌}
+use Rattle.recover_move.specs.Moves.{moved_to, moves_reads, row_moves_start, row_done, row_room, row_cut, row_turn}
+use mathlib.Core.List.{[], map}
+use mathlib.Core.Path.{refl, ◌∙◌}
 use native.Mathlib.Omega.{arith}
 use Rattle.law_basic.specs.Segs.{low_here}
 use Rattle.recover_move.proofs.move_stripe.Goals as goal

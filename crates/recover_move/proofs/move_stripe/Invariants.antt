@@ -4,13 +4,10 @@ use Rattle.spec.specs.Drives.{mk_disk}
 use Rattle.spec.specs.Lists.{up_from}
 use Rattle.spec.specs.Restart.{moved_stripe}
 use Rattle.recover_groups.specs.Groups.{segment_in}
-use Rattle.law_basic.specs.Geometry.{ranged}
-use Rattle.recover_move.specs.Moves.{moved_to, Moves, moves_reads, row_moves_start, row_done, row_room, row_cut, row_turn}
+use Rattle.recover_move.specs.Moves.{moved_to, Moves}
 use lib.ListN.{length}
-use mathlib.Core.List.{List, [], map}
-use mathlib.Core.Path.{◌≡◌, refl, ◌∙◌}
-use native.Mathlib.Omega.{arith}
-use Rattle.law_basic.specs.Segs.{low_here}
+use mathlib.Core.List.{List, map}
+use mathlib.Core.Path.{◌≡◌}
 use Rattle.recover_move.proofs.move_stripe.Given as goal
 
 abbrev pub invariant-loop-d : goal.invariant-loop-d

@@ -6,7 +6,6 @@ use Rattle.law_basic.specs.Geometry.{spare_len_lem}
 use Rattle.recover_move.specs.Moves.{put-moved}
 use Rattle.law_basic.specs.Fields.{length_record}
 use Rattle.disk_records.specs.Record.{rec_val}
-use borrow.Author.Rules.{rules}
 use lib.ListN.{length}
 use mathlib.Core.Path.{◌≡◌, sym, ap, ◌∙◌}
 use Rattle.recover_move.proofs.move_with.Goals as goal

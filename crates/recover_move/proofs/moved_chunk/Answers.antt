@@ -7,7 +7,6 @@ use Rattle.spec.specs.Segments.{stored_piece}
 use Rattle.recover_groups.specs.Groups.{segment_in}
 use Rattle.law_basic.specs.Geometry.{position_lt}
 use Rattle.recover_move.specs.Pieces.{renumbered_data, parity-moved}
-use borrow.Author.Rules.{rules}
 use mathlib.Core.Path.{sym, ap, ◌∙◌, subst}
 use Rattle.recover_move.proofs.moved_chunk.Goals as goal
 

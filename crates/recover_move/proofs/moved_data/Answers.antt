@@ -5,7 +5,6 @@ use Rattle.law_basic.specs.Mask.{is_in_empty}
 use Rattle.recover_move.specs.Moves.{shown-low}
 use Rattle.recover_move.specs.Pieces.{data-moved}
 use Rattle.disk_records.specs.Record.{rec_val}
-use borrow.Author.Rules.{rules}
 use mathlib.Core.Path.{refl}
 use native.Mathlib.Omega.{arith}
 use Rattle.law_basic.specs.Segs.{low_here}

@@ -1,18 +1,12 @@
 -- `moved_parity`: block and record are the exclusive or of the first i data chunks, the block at first zeros; one turn adds chunk i. Assumes nothing.
 use Prim.Native.Nat.{ℕ, ◌+◌, ◌-◌, ◌≤◌}
-use Rattle.spec.specs.Layout.{mk_rec}
 use Rattle.spec.specs.Params.{data_count}
 use Rattle.recover_groups.specs.Groups.{segment_in, GroupReads}
-use Rattle.law_basic.specs.Geometry.{ranged}
-use Rattle.law_basic.specs.Mask.{is_in_empty}
-use Rattle.recover_move.specs.Moves.{shown-low}
-use Rattle.recover_move.specs.Pieces.{data_count_minus, Xored, xored_start, xored_done, xored_step}
+use Rattle.recover_move.specs.Pieces.{Xored}
 use Rattle.disk_records.specs.Record.{rec_val}
-use lib.ListN.{length, replicate}
+use lib.ListN.{length}
 use mathlib.Core.List.{List}
-use mathlib.Core.Path.{◌≡◌, refl, ap, ◌∙◌, subst}
-use native.Mathlib.Omega.{arith}
-use Rattle.law_basic.specs.Segs.{low_here}
+use mathlib.Core.Path.{◌≡◌}
 use Rattle.recover_move.proofs.moved_parity.Given as goal
 
 abbrev pub invariant-loop-i : goal.invariant-loop-i

@@ -1,6 +1,6 @@
 -- `next_zone`: of the first z zones it is the next one; at Z of all. Assumes nothing.
 use mathlib.Core.Path.{◌≡◌, subst}
-use Prim.Native.Nat.{ℕ, ◌-◌, ◌≤◌}
+use Prim.Native.Nat.{ℕ}
 use native.Mathlib.Omega.{arith}
 use Rattle.recover_rebuild.specs.Rising.{RisingNext, next_first}
 use Rattle.recover_rebuild.proofs.next_zone.Goals as goal

@@ -4,11 +4,8 @@ use mathlib.Core.List.{List, []}
 use mathlib.Core.Bool.{true}
 use Prim.Native.Nat.{ℕ, ◌+◌, ◌≤◌, ◌<◌}
 use borrow.Author.Tests.{not-true, not-false}
-use borrow.Author.Rules.{rules}
 use native.Mathlib.Omega.{arith}
 use Rattle.spec.specs.Drives.{zone_at, mk_disk, pointer_of, sealed_in, footer_stores}
-use Rattle.spec.specs.Engine.Call.{close}
-use Rattle.spec.specs.History.{before}
 use Rattle.spec.specs.Lists.{below}
 use Rattle.spec.specs.Params.{footers, capacity, named}
 use Rattle.spec.specs.Segments.{segment_of}

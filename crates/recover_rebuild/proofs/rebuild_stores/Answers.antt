@@ -1,8 +1,5 @@
 -- `rebuild_stores`: the resets are cut or made; then the drive is empty, the others as they were, and the zones' stores are the rest. Assumes nothing.
-use borrow.Author.Rules.{rules}
 use Rattle.spec.specs.Drives.{mk_disk}
-use Rattle.spec.specs.Engine.Call.{close}
-use Rattle.spec.specs.History.{before}
 use Rattle.law_basic.specs.Geometry.{ranged}
 use Rattle.recover_rebuild.specs.Drive.{drive_resets, resets-cut, resets_whole, resets_fit, resets_good, drive_resets_empty, resets-made}
 use Rattle.recover_rebuild.proofs.rebuild_stores.Goals as goal

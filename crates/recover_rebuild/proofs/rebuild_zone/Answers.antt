@@ -3,12 +3,9 @@
 use mathlib.Core.Path.{◌≡◌, sym, ap, ◌∙◌, subst}
 use mathlib.Core.List.{List, [], ◌∷◌}
 use Prim.Native.Nat.{ℕ, ◌<◌}
-use borrow.Author.Rules.{rules}
 use Rattle.spec.specs.declared.Params.{Params}
 use Rattle.spec.specs.declared.Seg.{Seg}
 use Rattle.spec.specs.Drives.{Store, mk_disk, sealed_in, zone_on}
-use Rattle.spec.specs.Engine.Call.{close}
-use Rattle.spec.specs.History.{before}
 use Rattle.spec.specs.Layout.{header_serial, header_copied}
 use Rattle.spec.specs.Params.{named}
 use Rattle.spec.specs.Segments.{low_drive, header_at, segment_of}

@@ -1,23 +1,8 @@
 -- `rebuild_zones`: what is owed are the segments with serials above last, their zones still empty; one turn pays that with the least, or is cut. Assumes nothing.
-use mathlib.Core.Path.{◌≡◌, sym, ◌∙◌, subst}
-use mathlib.Core.Bool.{false}
-use mathlib.Core.List.{List, []}
-use Prim.Native.Nat.{ℕ, ◌*◌, ◌-◌, ◌<◌}
-use native.Mathlib.Omega.{arith}
-use Rattle.spec.specs.Bytes.{part}
-use Rattle.spec.specs.Drives.{mk_disk, pointer_of, zone_on, seg}
-use Rattle.spec.specs.Engine.Call.{close}
-use Rattle.spec.specs.History.{before}
-use Rattle.spec.specs.Params.{named}
-use Rattle.spec.specs.Rebuild.{rebuilt_zone}
-use Rattle.spec.specs.Segments.{segment_of}
-use Rattle.spec.specs.declared.Seg.{Seg}
-use Rattle.law_basic.specs.Geometry.{ranged}
-use Rattle.law_basic.specs.Segs.{ZonesLow}
-use Rattle.law_views.specs.Views.{AllFit, seen}
-use Rattle.disk_zones.specs.Made.{Storing}
-use Rattle.recover_groups.specs.Groups.{recs_fault}
-use Rattle.recover_rebuild.specs.Drive.{Zones, zones_start, zones_done, zones_fit, zones_good, zones_cut, zones_turn}
+use mathlib.Core.List.{List}
+use Prim.Native.Nat.{ℕ, ◌-◌}
+use Rattle.spec.specs.Drives.{mk_disk}
+use Rattle.recover_rebuild.specs.Drive.{Zones}
 use Rattle.recover_rebuild.specs.Rising.{RisingNext}
 use Rattle.recover_rebuild.proofs.rebuild_zones.Given as goal
 

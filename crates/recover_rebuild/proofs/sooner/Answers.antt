@@ -1,7 +1,6 @@
 -- `sooner`: a zone that is not flagged or not above leaves the other; it comes first where there is no other, or where its serial is the lower. Assumes nothing.
 use mathlib.Core.Bool.{false}
 use Prim.Native.Nat.{◌≤◌, ◌<◌}
-use borrow.Author.Rules.{rules}
 use borrow.Author.Tests.{not-true, not-false}
 use native.Mathlib.Omega.{arith}
 use lib.ListN.{get_or}

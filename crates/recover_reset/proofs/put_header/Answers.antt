@@ -2,14 +2,11 @@
 use mathlib.Core.Path.{sym, ap, ◌∙◌, subst}
 use mathlib.Core.List.{[], ◌∷◌}
 use Prim.Native.Nat.{ℕ, ◌+◌, ◌≤◌}
-use borrow.Author.Rules.{rules}
 use native.Mathlib.Omega.{arith}
 use lib.ListN.{replicate}
 use lib.Seq.{length-take-le}
 use Rattle.spec.specs.Drives.Store.{put}
 use Rattle.spec.specs.Drives.{mk_disk, zero_spare, zones_in}
-use Rattle.spec.specs.Engine.Call.{close}
-use Rattle.spec.specs.History.{before}
 use Rattle.spec.specs.Layout.{header_block}
 use Rattle.spec.specs.Params.{spare_len}
 use Rattle.law_basic.specs.Geometry.{ranged, spare_len_lem, unit_high}

@@ -1,10 +1,9 @@
 -- `reset_drive`: what is owed are the resets of the good zones from z on; one turn pays that of z, a cut ends it, at Z nothing is owed. Assumes nothing.
-use mathlib.Core.Path.{◌≡◌, refl, ◌∙◌, subst}
+use mathlib.Core.Path.{refl, ◌∙◌, subst}
 use mathlib.Core.List.{List, [], ◌∷◌, map}
 use mathlib.Core.Bool.{cond}
-use Prim.Native.Nat.{ℕ, ◌+◌, ◌-◌, ◌≤◌}
+use Prim.Native.Nat.{◌+◌}
 use native.Mathlib.Omega.{arith}
-use lib.ListN.{length}
 use Rattle.spec.specs.Drives.{Store, mk_disk, is_good, good_zones}
 use Rattle.spec.specs.Drives.Store.{reset}
 use Rattle.recover_drop.specs.Going.{Owes, owes_turn, owes_cut, owes_done}

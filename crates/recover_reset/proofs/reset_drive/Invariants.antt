@@ -1,14 +1,12 @@
 -- `reset_drive`: what is owed are the resets of the good zones from z on; one turn pays that of z, a cut ends it, at Z nothing is owed. Assumes nothing.
-use mathlib.Core.Path.{◌≡◌, refl, ◌∙◌, subst}
-use mathlib.Core.List.{List, [], ◌∷◌, map}
-use mathlib.Core.Bool.{cond}
-use Prim.Native.Nat.{ℕ, ◌+◌, ◌-◌, ◌≤◌}
-use native.Mathlib.Omega.{arith}
+use mathlib.Core.Path.{◌≡◌}
+use mathlib.Core.List.{List, map}
+use Prim.Native.Nat.{ℕ, ◌-◌, ◌≤◌}
 use lib.ListN.{length}
-use Rattle.spec.specs.Drives.{Store, mk_disk, is_good, good_zones}
+use Rattle.spec.specs.Drives.{mk_disk, good_zones}
 use Rattle.spec.specs.Drives.Store.{reset}
-use Rattle.recover_drop.specs.Going.{Owes, owes_turn, owes_cut, owes_done}
-use Rattle.recover_reset.specs.Good.{good_from, good_start, good_step, good_end}
+use Rattle.recover_drop.specs.Going.{Owes}
+use Rattle.recover_reset.specs.Good.{good_from}
 use Rattle.recover_reset.proofs.reset_drive.Given as goal
 
 abbrev pub invariant-loop-z : goal.invariant-loop-z

@@ -1,17 +1,11 @@
 -- `move_group`: what is left to move are the counted stripes from base + k on; seg stays, and with it the index; a turn moves k or is cut. Assumes nothing.
 use Prim.Native.Nat.{ℕ, ◌+◌, ◌-◌, ◌≤◌}
 use Rattle.spec.specs.Drives.{mk_disk}
-use Rattle.spec.specs.Segments.{Segment}
-use Rattle.recover_groups.specs.Bases.{in_group}
 use Rattle.recover_groups.specs.Groups.{group_len, segment_in}
-use Rattle.law_basic.specs.Geometry.{ranged}
-use Rattle.recover_rewrite.specs.Due.{itself, counted_from, itself_few, from_none, from_step, MovedUpto, upto_start, upto_as, upto_done, upto_first, upto_cut}
-use Rattle.recover_rewrite.specs.Due.{upto_turn, from_start, upto_reads, upto_step, upto_fits}
+use Rattle.recover_rewrite.specs.Due.{counted_from, MovedUpto}
 use lib.ListN.{length}
-use mathlib.Core.List.{List, [], ◌++◌}
-use mathlib.Core.Path.{◌≡◌, refl, sym, ◌∙◌, subst}
-use native.Mathlib.Omega.{arith}
-use Rattle.law_basic.specs.Segs.{ZonesLow}
+use mathlib.Core.List.{List}
+use mathlib.Core.Path.{◌≡◌}
 use Rattle.recover_rewrite.proofs.move_group.Given as goal
 
 abbrev pub invariant-loop-k : goal.invariant-loop-k

@@ -9,7 +9,6 @@ use Rattle.law_basic.specs.Geometry.{ranged}
 use Rattle.recover_move.specs.Moves.{shown-low}
 use Rattle.recover_rewrite.specs.Due.{itself, itself-counts, itself_none, step_none, step-one, fit_one}
 use Rattle.law_views.specs.Views.{seen}
-use borrow.Author.Rules.{rules}
 use borrow.Author.Tests.{not-true, not-false}
 use mathlib.Core.Bool.{true}
 use mathlib.Core.List.{List, []}

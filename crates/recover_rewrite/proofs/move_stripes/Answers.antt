@@ -1,16 +1,15 @@
 -- `move_stripes`: what is left to move are the counted stripes from base on, and next is at most base; one turn moves a group, or is cut. Assumes nothing.
-use Prim.Native.Nat.{ℕ, ◌+◌, ◌-◌, ◌%◌, ◌≤◌}
-use Rattle.spec.specs.Drives.{view_of, mk_disk}
+use Prim.Native.Nat.{◌+◌, ◌-◌}
+use Rattle.spec.specs.Drives.{mk_disk}
 use Rattle.spec.specs.Segments.{Segment, segment_of, counted}
 use Rattle.recover_groups.specs.Bases.{group_len_le}
 use Rattle.recover_groups.specs.Groups.{group_len, recs_fault}
 use Rattle.law_basic.specs.Geometry.{ranged, base_next}
-use Rattle.recover_rewrite.specs.Due.{counted_from, from_few, from_none, from-group, from_all, MovedUpto, upto_start, upto_as, upto_done, upto_first, upto_cut}
+use Rattle.recover_rewrite.specs.Due.{counted_from, from_few, from_none, from-group, from_all, upto_start, upto_as, upto_done, upto_first, upto_cut}
 use Rattle.recover_rewrite.specs.Due.{upto_turn, upto_in, upto_sealed, upto_step, upto_fits, group_at_of, unmoved, bases_first}
 use Rattle.law_views.specs.Views.{seen}
-use lib.ListN.{length}
 use mathlib.Core.Bool.{false}
-use mathlib.Core.List.{List, [], ◌++◌}
+use mathlib.Core.List.{[], ◌++◌}
 use mathlib.Core.Path.{◌≡◌, refl, sym, ◌∙◌, subst}
 use native.Mathlib.Omega.{arith}
 use Rattle.recover_rewrite.proofs.move_stripes.Goals as goal

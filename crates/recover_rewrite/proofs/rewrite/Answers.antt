@@ -2,7 +2,6 @@
 use Rattle.spec.specs.Drives.{mk_disk}
 use Rattle.law_basic.specs.Geometry.{ranged}
 use Rattle.recover_rewrite.specs.Rewrite.{rewrite_heads, rewrite_whole, rewrite_sealed, rewrite_good, rewrite_fits, rewrite_moves, rewrite-resets, new_head_room}
-use borrow.Author.Rules.{rules}
 use mathlib.Core.List.{[]}
 use mathlib.Core.Path.{◌∙◌}
 use Rattle.recover_rewrite.proofs.rewrite.Goals as goal

@@ -1,9 +1,9 @@
 -- `clear_marks`: the first i marks are clear. Assumes nothing.
-use mathlib.Core.Path.{◌≡◌, refl, ◌∙◌}
+use mathlib.Core.Path.{refl, ◌∙◌}
 use mathlib.Core.Bool.{false}
-use Prim.Native.Nat.{ℕ, ◌-◌, ◌≤◌, ◌<◌}
+use Prim.Native.Nat.{◌<◌}
 use native.Mathlib.Omega.{arith}
-use lib.ListN.{length, get_or, length-set}
+use lib.ListN.{length, length-set}
 use Rattle.spec.specs.Params.{offline_len}
 use Rattle.disk_gather.specs.Found.{set_more}
 use Rattle.recover_segments.proofs.clear_marks.Goals as goal

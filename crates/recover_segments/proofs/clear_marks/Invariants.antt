@@ -1,11 +1,8 @@
 -- `clear_marks`: the first i marks are clear. Assumes nothing.
-use mathlib.Core.Path.{◌≡◌, refl, ◌∙◌}
+use mathlib.Core.Path.{◌≡◌}
 use mathlib.Core.Bool.{false}
 use Prim.Native.Nat.{ℕ, ◌-◌, ◌≤◌, ◌<◌}
-use native.Mathlib.Omega.{arith}
-use lib.ListN.{length, get_or, length-set}
-use Rattle.spec.specs.Params.{offline_len}
-use Rattle.disk_gather.specs.Found.{set_more}
+use lib.ListN.{length, get_or}
 use Rattle.recover_segments.proofs.clear_marks.Given as goal
 
 abbrev pub invariant-loop-i : goal.invariant-loop-i

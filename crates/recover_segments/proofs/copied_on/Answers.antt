@@ -1,7 +1,6 @@
 -- `copied_on`: the header's copied serial at the segment's zone on the drive. Assumes nothing.
 use mathlib.Core.Path.{ap, ◌∙◌}
 use Prim.Native.Nat.{ℕ}
-use borrow.Author.Rules.{rules}
 use Rattle.spec.specs.Drives.{view_of, chunk_at}
 use Rattle.spec.specs.Layout.{header_copied}
 use Rattle.spec.specs.Segments.{header_at}

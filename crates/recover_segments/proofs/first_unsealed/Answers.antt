@@ -1,13 +1,7 @@
 -- `first_unsealed`: the first unsealed segment from z on is the first of all; one found ends it, and at Z there is none. Assumes nothing.
-use mathlib.Core.Path.{◌≡◌, sym, ◌∙◌}
-use mathlib.Core.List.{List}
-use Prim.Native.Nat.{ℕ, ◌-◌, ◌≤◌}
+use mathlib.Core.Path.{sym, ◌∙◌}
 use native.Mathlib.Omega.{arith}
-use lib.ListN.{length}
 use Rattle.spec.specs.Drives.{view_of}
-use Rattle.spec.specs.Lists.{up_from, below, keep, first_or}
-use Rattle.spec.specs.Params.{image_len}
-use Rattle.disk_gather.specs.Flags.{Keeps, FlagsRows}
 use Rattle.disk_gather.specs.Found.{lowest_turn, lowest_pass, lowest_end, lowest_start}
 use Rattle.recover_segments.specs.Kept.{unsealed_at, unsealed_is}
 use Rattle.recover_segments.proofs.first_unsealed.Goals as goal

@@ -1,7 +1,7 @@
 -- `free_segment`: after d turns the first d zones are the drives' lowest free ones and the others 0; after N it is the segment. Assumes nothing.
 use mathlib.Core.Path.{◌≡◌, sym, ap, ◌∙◌}
 use mathlib.Core.List.{List}
-use Prim.Native.Nat.{ℕ, ◌-◌, ◌≤◌, ◌<◌}
+use Prim.Native.Nat.{ℕ, ◌<◌}
 use native.Mathlib.Omega.{arith}
 use lib.ListN.{set}
 use Rattle.spec.specs.Drives.{seg}

@@ -1,14 +1,9 @@
 -- `free_segment`: after d turns the first d zones are the drives' lowest free ones and the others 0; after N it is the segment. Assumes nothing.
-use mathlib.Core.Path.{◌≡◌, sym, ap, ◌∙◌}
-use mathlib.Core.List.{List}
-use Prim.Native.Nat.{ℕ, ◌-◌, ◌≤◌, ◌<◌}
-use native.Mathlib.Omega.{arith}
-use lib.ListN.{set}
-use Rattle.spec.specs.Drives.{seg}
+use mathlib.Core.Path.{◌≡◌}
+use Prim.Native.Nat.{◌-◌, ◌≤◌}
 use Rattle.spec.specs.Lists.{below, keep, first_or}
-use Rattle.law_basic.specs.Geometry.{ranged}
-use Rattle.recover_segments.specs.Taken.{free_in, free_seg_by, first_low}
-use Rattle.law_basic.specs.Segs.{filled_to, filled_none, filled_more, filled_with, with_low}
+use Rattle.recover_segments.specs.Taken.{free_in}
+use Rattle.law_basic.specs.Segs.{filled_to}
 use Rattle.recover_segments.proofs.free_segment.Given as goal
 
 abbrev pub invariant-loop-d : goal.invariant-loop-d

@@ -2,7 +2,6 @@
 use mathlib.Core.Path.{◌≡◌, sym, ◌∙◌, subst}
 use Prim.Native.Nat.{ℕ, ◌<◌}
 use native.Mathlib.Omega.{arith}
-use borrow.Author.Rules.{rules}
 use Rattle.law_basic.specs.Geometry.{ranged}
 use Rattle.recover_segments.specs.Taken.{free_in, first_else, first_nil}
 use Rattle.recover_segments.proofs.free_zone.Goals as goal

@@ -3,7 +3,6 @@ use mathlib.Core.Path.{◌≡◌, sym, ◌∙◌}
 use Prim.Native.Nat.{max}
 use borrow.Author.Tests.{not-true, not-false}
 use native.Mathlib.Omega.{arith}
-use Rattle.spec.specs.History.{before}
 use Rattle.law_drives.specs.Tests.{cond_true, cond_false}
 use Rattle.recover_segments.proofs.greater_if.Goals as goal
 

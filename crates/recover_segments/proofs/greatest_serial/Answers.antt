@@ -1,7 +1,7 @@
 -- `greatest_serial`: after z turns it is the greatest serial of the kept among the first z; at Z that is the greatest of the segments. Assumes nothing.
 use mathlib.Core.Path.{◌≡◌, sym, ap, ◌∙◌}
 use mathlib.Core.Bool.{false, cond}
-use Prim.Native.Nat.{ℕ, ◌-◌, max, ◌≤◌}
+use Prim.Native.Nat.{ℕ, max}
 use native.Mathlib.Omega.{arith}
 use lib.ListN.{get_or}
 use Rattle.recover_segments.specs.Kept.{greatest_in, greatest_first, greatest_next, greatest-all}

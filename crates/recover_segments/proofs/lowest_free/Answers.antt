@@ -1,9 +1,8 @@
 -- `lowest_free`: the first free zone from z on is the first of all; a free zone z is it, another passes on; at Z there is none. Assumes nothing.
-use mathlib.Core.Path.{◌≡◌, sym, ◌∙◌}
+use mathlib.Core.Path.{sym, ◌∙◌}
 use mathlib.Core.Bool.{Bool}
-use Prim.Native.Nat.{ℕ, ◌-◌, ◌≤◌}
+use Prim.Native.Nat.{ℕ}
 use native.Mathlib.Omega.{arith}
-use Rattle.spec.specs.Lists.{below, up_from, keep, first_or}
 use Rattle.disk_gather.specs.Found.{lowest_turn, lowest_pass, lowest_end, lowest_start}
 use Rattle.recover_segments.specs.Taken.{free_in}
 use Rattle.recover_segments.proofs.lowest_free.Goals as goal

@@ -1,11 +1,11 @@
 -- `mark_segment`: the zones of the drives below d are marked. Assumes nothing.
-use mathlib.Core.Path.{◌≡◌, refl, ap, ◌∙◌}
+use mathlib.Core.Path.{refl, ap, ◌∙◌}
 use mathlib.Core.Bool.{false, ◌&&◌, ◌||◌}
-use Prim.Native.Nat.{ℕ, ◌+◌, ◌-◌, ◌*◌, ◌≤◌}
+use Prim.Native.Nat.{ℕ, ◌+◌, ◌*◌}
 use native.Mathlib.Omega.{arith}
 use lib.Dec.{eqb}
-use lib.ListN.{length, get_or}
-use Rattle.recover_segments.specs.Taken.{MarkedOn, on_start, on_more, on_all}
+use lib.ListN.{get_or}
+use Rattle.recover_segments.specs.Taken.{on_start, on_more, on_all}
 use Rattle.recover_segments.proofs.mark_segment.Goals as goal
 
 pub loop-d-init : goal.loop-d-init

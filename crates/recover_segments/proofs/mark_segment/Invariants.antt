@@ -1,11 +1,8 @@
 -- `mark_segment`: the zones of the drives below d are marked. Assumes nothing.
-use mathlib.Core.Path.{◌≡◌, refl, ap, ◌∙◌}
-use mathlib.Core.Bool.{false, ◌&&◌, ◌||◌}
-use Prim.Native.Nat.{ℕ, ◌+◌, ◌-◌, ◌*◌, ◌≤◌}
-use native.Mathlib.Omega.{arith}
-use lib.Dec.{eqb}
-use lib.ListN.{length, get_or}
-use Rattle.recover_segments.specs.Taken.{MarkedOn, on_start, on_more, on_all}
+use mathlib.Core.Path.{◌≡◌}
+use Prim.Native.Nat.{◌-◌, ◌≤◌}
+use lib.ListN.{length}
+use Rattle.recover_segments.specs.Taken.{MarkedOn}
 use Rattle.recover_segments.proofs.mark_segment.Given as goal
 
 abbrev pub invariant-loop-d : goal.invariant-loop-d

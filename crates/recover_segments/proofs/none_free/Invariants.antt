@@ -1,11 +1,8 @@
 -- `none_free`: drives below d have a free zone; one without ends it. Assumes nothing.
-use mathlib.Core.Path.{◌≡◌, sym, ◌∙◌}
-use mathlib.Core.Bool.{Bool}
-use Prim.Native.Nat.{ℕ, ◌-◌, ◌≤◌}
-use native.Mathlib.Omega.{arith}
+use mathlib.Core.Path.{◌≡◌}
+use Prim.Native.Nat.{◌-◌, ◌≤◌}
 use Rattle.spec.specs.Lists.{below, up_from, any, keep, is_nil}
-use Rattle.law_scans.specs.Scans.{any_found, any_passed, any-ended, any-start}
-use Rattle.recover_segments.specs.Taken.{free_in, none_free, taken_nil_first, some_first}
+use Rattle.recover_segments.specs.Taken.{free_in}
 use Rattle.recover_segments.proofs.none_free.Given as goal
 
 abbrev pub invariant-loop-d : goal.invariant-loop-d

@@ -1,6 +1,5 @@
 -- `serial_on`: the header's serial at the segment's zone on the drive. Assumes nothing.
 use mathlib.Core.Path.{ap, ◌∙◌}
-use borrow.Author.Rules.{rules}
 use Rattle.spec.specs.Drives.{view_of}
 use Rattle.spec.specs.Segments.{header_at, serial_in}
 use Rattle.recover_segments.proofs.serial_on.Goals as goal

@@ -1,8 +1,7 @@
 -- `taken`: the table says which zones the first z flagged rows have; after Z rows that is what the remaining segments have. Assumes nothing.
 use mathlib.Core.Path.{◌≡◌, refl, ◌∙◌, subst}
-use Prim.Native.Nat.{ℕ, ◌-◌, ◌≤◌}
+use Prim.Native.Nat.{ℕ}
 use native.Mathlib.Omega.{arith}
-use lib.ListN.{length}
 use Rattle.recover_segments.specs.Taken.{MarkedBy, marks_start, marks_next, marks_taken}
 use Rattle.recover_segments.proofs.taken.Goals as goal
 

@@ -1,9 +1,8 @@
 -- `taken`: the table says which zones the first z flagged rows have; after Z rows that is what the remaining segments have. Assumes nothing.
-use mathlib.Core.Path.{◌≡◌, refl, ◌∙◌, subst}
-use Prim.Native.Nat.{ℕ, ◌-◌, ◌≤◌}
-use native.Mathlib.Omega.{arith}
+use mathlib.Core.Path.{◌≡◌}
+use Prim.Native.Nat.{◌-◌, ◌≤◌}
 use lib.ListN.{length}
-use Rattle.recover_segments.specs.Taken.{MarkedBy, marks_start, marks_next, marks_taken}
+use Rattle.recover_segments.specs.Taken.{MarkedBy}
 use Rattle.recover_segments.proofs.taken.Given as goal
 
 abbrev pub invariant-loop-z : goal.invariant-loop-z

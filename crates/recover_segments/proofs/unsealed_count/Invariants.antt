@@ -1,17 +1,13 @@
 -- `unsealed_count`: n and the number of unsealed segments from z on are that of all; an unsealed one adds 1 to n, and n is at most z. Assumes nothing.
-use mathlib.Core.Path.{◌≡◌, sym, ap, ◌∙◌}
+use mathlib.Core.Path.{◌≡◌}
 use mathlib.Core.List.{List}
-use mathlib.Core.Bool.{Bool}
-use mathlib.Core.Logic.{⊎_elim}
 use Prim.Native.Nat.{ℕ, ◌+◌, ◌-◌, ◌≤◌}
-use native.Mathlib.Omega.{arith}
 use lib.ListN.{length}
 use Rattle.spec.specs.Drives.{view_of}
 use Rattle.spec.specs.Lists.{up_from, below, keep}
 use Rattle.spec.specs.Params.{image_len}
-use Rattle.law_scans.specs.Scans.{kept-one, kept_none, kept-ended, kept-start}
 use Rattle.disk_gather.specs.Flags.{Keeps, FlagsRows}
-use Rattle.recover_segments.specs.Kept.{unsealed_at, unsealed_is, unsealed-length}
+use Rattle.recover_segments.specs.Kept.{unsealed_at}
 use Rattle.recover_segments.proofs.unsealed_count.Given as goal
 
 abbrev pub invariant-loop-z : goal.invariant-loop-z

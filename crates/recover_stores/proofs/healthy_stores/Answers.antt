@@ -12,7 +12,6 @@ use Rattle.recover_segments.specs.Kept.{kept-rows-low}
 use Rattle.recover_stores.specs.Refit.{none_open, row_open, row_serial, refit_cut, refit_whole, refit_none, unsealed-low, refit_plain, feet_fit, feet_pointers, refit_feet}
 use Rattle.recover_stores.specs.Refit.{serial_left, to_apart, to_empty, still_open, still_good, old_serial, moves_fit, refit-rewrite}
 use Rattle.law_views.specs.Views.{seen}
-use borrow.Author.Rules.{rules}
 use borrow.Author.Tests.{not-true, not-false}
 use lib.Arith.{lt_of_le-ne}
 use lib.ListN.{get_or}

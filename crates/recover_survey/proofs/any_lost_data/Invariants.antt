@@ -1,12 +1,9 @@
 -- `any_lost_data`: no drive missing, none has data; else some missing drive from d on has data just if one has, and one found ends it. Assumes nothing.
-use mathlib.Core.Path.{◌≡◌, sym, ◌∙◌}
-use mathlib.Core.Bool.{Bool, ◌&&◌}
-use Prim.Native.Nat.{ℕ, ◌-◌, ◌≤◌}
-use native.Mathlib.Omega.{arith}
+use mathlib.Core.Path.{◌≡◌}
+use mathlib.Core.Bool.{◌&&◌}
+use Prim.Native.Nat.{◌-◌, ◌≤◌}
 use Rattle.spec.specs.Layout.{is_data}
 use Rattle.spec.specs.Lists.{up_from, below, any, is_in}
-use Rattle.law_scans.specs.Scans.{any_found, any_passed, any-ended, any-start}
-use Rattle.recover_survey.specs.Stripes.{absent-any, absent_none}
 use Rattle.recover_survey.proofs.any_lost_data.Given as goal
 
 abbrev pub invariant-loop-d : goal.invariant-loop-d

@@ -1,12 +1,8 @@
 -- `is_all_entered`: each present drive below d is entered; one that is not refutes it and ends it, and at N all are. Assumes nothing.
-use mathlib.Core.Path.{◌≡◌, refl, sym, subst}
+use mathlib.Core.Path.{◌≡◌}
 use mathlib.Core.Bool.{false}
-use Prim.Native.Nat.{ℕ, ◌+◌, ◌-◌, ◌≤◌, ◌<◌}
-use native.Mathlib.Omega.{arith}
-use native.Mathlib.Decide.{dec_lt}
-use borrow.Author.Tests.{not-true, not-false}
+use Prim.Native.Nat.{ℕ, ◌-◌, ◌≤◌, ◌<◌}
 use Rattle.spec.specs.Lists.{is_in}
-use Rattle.law_basic.specs.Ranges.{not_both}
 use Rattle.recover_groups.specs.Groups.{Entered}
 use Rattle.recover_survey.proofs.is_all_entered.Given as goal
 

@@ -8,7 +8,6 @@ use borrow.Author.Tests.{le-leb, leb-true}
 use Rattle.spec.specs.Lists.{is_in}
 use Rattle.law_basic.specs.Geometry.{ranged}
 use Rattle.law_basic.specs.Ranges.{not_both}
-use borrow.Author.Rules.{rules}
 use Rattle.recover_survey.proofs.is_entered.Goals as goal
 
 pub returns-then-has_drive : goal.returns-then-has_drive

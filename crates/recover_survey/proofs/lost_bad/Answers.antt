@@ -10,7 +10,6 @@ use Rattle.recover_groups.specs.Groups.{segment_in}
 use Rattle.recover_groups.specs.Bases.{group_len_le}
 use Rattle.recover_groups.specs.Chunks.{counts-entered}
 use Rattle.recover_survey.specs.Stripes.{no_lost_bad, lost_some}
-use borrow.Author.Rules.{rules}
 use Rattle.recover_survey.proofs.lost_bad.Goals as goal
 
 pub overflow_add-w : goal.overflow_add-w

@@ -3,7 +3,6 @@ use mathlib.Core.Path.{sym, ap, ◌∙◌}
 use mathlib.Core.Bool.{Bool, ◌&&◌}
 use borrow.Author.Tests.{not-true, not-false}
 use Rattle.spec.specs.Layout.{is_data}
-use borrow.Author.Rules.{rules}
 use Rattle.recover_survey.proofs.lost_data.Goals as goal
 
 pub returns-then-not-has_drive : goal.returns-then-not-has_drive

@@ -2,14 +2,12 @@
 use mathlib.Core.Path.{◌≡◌, sym, ◌∙◌, subst}
 use mathlib.Core.List.{List}
 use mathlib.Core.Bool.{false}
-use Prim.Native.Nat.{ℕ, ◌+◌, ◌-◌, ◌%◌, min, ◌≤◌, ◌<◌}
+use Prim.Native.Nat.{ℕ, ◌+◌, min, ◌≤◌}
 use native.Mathlib.Omega.{arith}
-use lib.ListN.{length}
-use Rattle.spec.specs.Drives.{View, view_of, sealed_in}
-use Rattle.spec.specs.Lists.{any}
+use Rattle.spec.specs.Drives.{View, view_of}
 use Rattle.spec.specs.Segments.{Segment, segment_of}
 use Rattle.law_basic.specs.Geometry.{ranged, base_next}
-use Rattle.recover_groups.specs.Groups.{group_len, group_fault, recs_fault, bases_from}
+use Rattle.recover_groups.specs.Groups.{group_len}
 use Rattle.recover_survey.specs.Stripes.{Tallied, tallied_none, surveyed, group_next, groups_left_lem, faults_start, groups_ended}
 use native.Mathlib.Nat.{zero-mod, zero-min}
 use Rattle.recover_survey.proofs.survey.Goals as goal

@@ -1,17 +1,14 @@
 -- `survey`: the tally is of the stripes below base and, unless bad, no group there has a fault; one turn adds a group, at S all are in. Assumes nothing.
-use mathlib.Core.Path.{◌≡◌, sym, ◌∙◌, subst}
+use mathlib.Core.Path.{◌≡◌}
 use mathlib.Core.List.{List}
 use mathlib.Core.Bool.{false}
 use Prim.Native.Nat.{ℕ, ◌+◌, ◌-◌, ◌%◌, min, ◌≤◌, ◌<◌}
-use native.Mathlib.Omega.{arith}
 use lib.ListN.{length}
-use Rattle.spec.specs.Drives.{View, view_of, sealed_in}
+use Rattle.spec.specs.Drives.{view_of, sealed_in}
 use Rattle.spec.specs.Lists.{any}
-use Rattle.spec.specs.Segments.{Segment, segment_of}
-use Rattle.law_basic.specs.Geometry.{ranged, base_next}
-use Rattle.recover_groups.specs.Groups.{group_len, group_fault, recs_fault, bases_from}
-use Rattle.recover_survey.specs.Stripes.{Tallied, tallied_none, surveyed, group_next, groups_left_lem, faults_start, groups_ended}
-use native.Mathlib.Nat.{zero-mod, zero-min}
+use Rattle.spec.specs.Segments.{segment_of}
+use Rattle.recover_groups.specs.Groups.{group_fault, recs_fault, bases_from}
+use Rattle.recover_survey.specs.Stripes.{Tallied}
 use Rattle.recover_survey.proofs.survey.Given as goal
 
 abbrev pub invariant-loop-base : goal.invariant-loop-base

@@ -11,7 +11,6 @@ use Rattle.law_basic.specs.Ranges.{not_both}
 use Rattle.recover_survey.specs.declared.Tally.{Tally}
 use Rattle.recover_groups.specs.Groups.{group_len, group_fault, segment_in}
 use Rattle.recover_survey.specs.Stripes.{Tallied, worse, bad_says, group_fault_lem}
-use borrow.Author.Rules.{rules}
 use Rattle.recover_survey.proofs.survey_group.Goals as goal
 
 pub returns-then-not-index_group : goal.returns-then-not-index_group

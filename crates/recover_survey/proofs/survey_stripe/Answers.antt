@@ -5,7 +5,6 @@ use mathlib.Core.List.{List}
 use Prim.Native.Nat.{ℕ, ◌+◌, ◌≤◌}
 use native.Mathlib.Omega.{arith}
 use lib.ListN.{length}
-use borrow.Author.Rules.{rules}
 use Rattle.spec.specs.Drives.{view_of}
 use Rattle.spec.specs.Params.{present}
 use Rattle.spec.specs.Segments.{counts}

@@ -1,11 +1,10 @@
 -- `survey_stripes`: the tally is of the stripes below base + k; one turn adds stripe k, and counted and loose are at most base + k. Assumes nothing.
 use mathlib.Core.Path.{◌≡◌, sym, subst}
 use mathlib.Core.Bool.{false}
-use mathlib.Core.List.{List}
-use Prim.Native.Nat.{ℕ, ◌+◌, ◌-◌, ◌≤◌, ◌<◌}
+use Prim.Native.Nat.{ℕ, ◌+◌, ◌≤◌, ◌<◌}
 use native.Mathlib.Omega.{arith}
 use Rattle.recover_groups.specs.Groups.{group_len, segment_in}
-use Rattle.recover_survey.specs.Stripes.{Shown, Tallied}
+use Rattle.recover_survey.specs.Stripes.{Tallied}
 use native.Mathlib.Nat.{add-zero, add_assoc}
 use Rattle.recover_survey.proofs.survey_stripes.Goals as goal
 

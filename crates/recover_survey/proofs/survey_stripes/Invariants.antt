@@ -1,12 +1,10 @@
 -- `survey_stripes`: the tally is of the stripes below base + k; one turn adds stripe k, and counted and loose are at most base + k. Assumes nothing.
-use mathlib.Core.Path.{◌≡◌, sym, subst}
+use mathlib.Core.Path.{◌≡◌}
 use mathlib.Core.Bool.{false}
 use mathlib.Core.List.{List}
-use Prim.Native.Nat.{ℕ, ◌+◌, ◌-◌, ◌≤◌, ◌<◌}
-use native.Mathlib.Omega.{arith}
-use Rattle.recover_groups.specs.Groups.{group_len, segment_in}
+use Prim.Native.Nat.{ℕ, ◌+◌, ◌-◌, ◌≤◌}
+use Rattle.recover_groups.specs.Groups.{segment_in}
 use Rattle.recover_survey.specs.Stripes.{Shown, Tallied}
-use native.Mathlib.Nat.{add-zero, add_assoc}
 use Rattle.recover_survey.proofs.survey_stripes.Given as goal
 
 abbrev pub invariant-loop-k : goal.invariant-loop-k

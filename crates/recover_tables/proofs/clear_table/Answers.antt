@@ -1,9 +1,7 @@
 -- `clear_table`: the first i bytes are 255; one turn sets byte i, and at n they are all. Assumes nothing.
-use mathlib.Core.Path.{◌≡◌, refl}
-use Prim.Native.Nat.{◌-◌, ◌≤◌}
+use mathlib.Core.Path.{refl}
 use native.Mathlib.Omega.{arith}
-use lib.ListN.{length, replicate, length-set}
-use Rattle.spec.specs.Bytes.{splice}
+use lib.ListN.{length-set}
 use Rattle.recover_tables.specs.Ready.{fill_none, fill_turn, fill_all}
 use Rattle.recover_tables.proofs.clear_table.Goals as goal
 

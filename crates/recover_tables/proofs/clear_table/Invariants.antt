@@ -1,10 +1,8 @@
 -- `clear_table`: the first i bytes are 255; one turn sets byte i, and at n they are all. Assumes nothing.
-use mathlib.Core.Path.{◌≡◌, refl}
+use mathlib.Core.Path.{◌≡◌}
 use Prim.Native.Nat.{◌-◌, ◌≤◌}
-use native.Mathlib.Omega.{arith}
-use lib.ListN.{length, replicate, length-set}
+use lib.ListN.{length, replicate}
 use Rattle.spec.specs.Bytes.{splice}
-use Rattle.recover_tables.specs.Ready.{fill_none, fill_turn, fill_all}
 use Rattle.recover_tables.proofs.clear_table.Given as goal
 
 abbrev pub invariant-loop-i : goal.invariant-loop-i

@@ -2,7 +2,6 @@
 use mathlib.Core.Path.{sym, ◌∙◌}
 use Prim.Native.Nat.{◌+◌}
 use native.Mathlib.Omega.{arith}
-use borrow.Author.Rules.{rules}
 use Rattle.spec.specs.Drives.{view_of}
 use Rattle.recover_groups.specs.Bases.{group_len_le}
 use Rattle.recover_groups.specs.Chunks.{missing_entry}

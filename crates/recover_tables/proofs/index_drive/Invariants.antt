@@ -1,20 +1,15 @@
 -- Entry by entry: each offset below the pointer is entered where the table says; the law entered has that step, all-entered the end.
-use mathlib.Core.Path.{◌≡◌, sym, ◌∙◌, subst}
+use mathlib.Core.Path.{◌≡◌}
 use mathlib.Core.List.{List}
-use Prim.Native.Nat.{ℕ, ◌+◌, ◌-◌, ◌*◌, ◌≤◌}
-use native.Mathlib.Omega.{arith}
-use lib.ListN.{length, set, length-set}
+use Prim.Native.Nat.{ℕ, ◌-◌, ◌≤◌}
+use lib.ListN.{length}
 use Rattle.spec.specs.Drives.{view_of}
 use Rattle.spec.specs.Segments.{remaining, recs_on}
-use Rattle.recover_groups.specs.Bases.{group_len_le}
-use Rattle.recover_groups.specs.Entering.{Entering, entering_start}
+use Rattle.recover_groups.specs.Entering.{Entering}
 use Rattle.recover_groups.specs.Groups.{group_recs, segment_in}
-use Rattle.law_basic.specs.Geometry.{ranged}
 use Rattle.recover_compact.specs.Compacts.{SegmentShown}
 use Rattle.recover_addresses.specs.Lies.{Ground}
 use Rattle.law_drives.specs.Members.{In}
-use Rattle.recover_tables.specs.Index.{index_entered, all-entered}
-use Rattle.law_basic.specs.Segs.{low_zone}
 use Rattle.recover_tables.proofs.index_drive.Given as goal
 
 abbrev pub invariant-loop-i : goal.invariant-loop-i

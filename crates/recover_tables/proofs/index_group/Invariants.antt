@@ -1,18 +1,13 @@
 -- Drive by drive: the rows of the drives below d are right; with all of them the group is indexed, since no record is at fault (seg-clean).
-use mathlib.Core.Path.{◌≡◌, sym, ◌∙◌}
+use mathlib.Core.Path.{◌≡◌}
 use mathlib.Core.List.{List}
 use Prim.Native.Nat.{ℕ, ◌-◌, ◌≤◌, ◌<◌}
-use native.Mathlib.Omega.{arith}
 use lib.ListN.{length}
 use Rattle.spec.specs.Drives.{view_of}
 use Rattle.spec.specs.Segments.{remaining, recs_on}
-use Rattle.recover_groups.specs.Bases.{group_len_le}
-use Rattle.recover_groups.specs.Chunks.{indexed_of}
-use Rattle.recover_groups.specs.Entering.{rows_next}
 use Rattle.recover_groups.specs.Groups.{group_recs, segment_in, Row}
-use Rattle.law_basic.specs.Geometry.{ranged}
 use Rattle.recover_compact.specs.Compacts.{SegmentShown}
-use Rattle.recover_addresses.specs.Lies.{Ground, seg_clean}
+use Rattle.recover_addresses.specs.Lies.{Ground}
 use Rattle.law_drives.specs.Members.{In}
 use Rattle.recover_tables.proofs.index_group.Given as goal
 

@@ -1,5 +1,4 @@
 -- The open segment and the greatest serial are those of the segments that remain; with the tables they make the memory (memory-is). Assumes nothing.
-use borrow.Author.Rules.{rules}
 use native.Mathlib.Omega.{arith}
 use lib.ListN.{get_or-replicate}
 use Rattle.spec.specs.Drives.{View, view_of}

@@ -1,8 +1,7 @@
 -- Stripe by stripe, by the law walked-turn; the index is that of the group, which the ground of the tables gives (index_group).
 use mathlib.Core.Path.{◌≡◌, refl, ◌∙◌, subst}
-use Prim.Native.Nat.{ℕ, ◌-◌, ◌≤◌, ◌<◌}
+use Prim.Native.Nat.{ℕ, ◌<◌}
 use native.Mathlib.Omega.{arith}
-use lib.ListN.{length}
 use Rattle.spec.specs.Drives.{View, view_of}
 use Rattle.spec.specs.Lists.{up_from}
 use Rattle.recover_groups.specs.Groups.{group_len, segment_in, GroupReads}

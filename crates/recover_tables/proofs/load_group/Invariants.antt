@@ -1,14 +1,10 @@
 -- Stripe by stripe, by the law walked-turn; the index is that of the group, which the ground of the tables gives (index_group).
-use mathlib.Core.Path.{◌≡◌, refl, ◌∙◌, subst}
-use Prim.Native.Nat.{ℕ, ◌-◌, ◌≤◌, ◌<◌}
-use native.Mathlib.Omega.{arith}
+use mathlib.Core.Path.{◌≡◌}
+use Prim.Native.Nat.{◌-◌, ◌≤◌}
 use lib.ListN.{length}
-use Rattle.spec.specs.Drives.{View, view_of}
+use Rattle.spec.specs.Drives.{view_of}
 use Rattle.spec.specs.Lists.{up_from}
-use Rattle.recover_groups.specs.Groups.{group_len, segment_in, GroupReads}
-use Rattle.law_basic.specs.Ranges.{length_up_from}
-use Rattle.law_drives.specs.Segs.{remaining-low}
-use Rattle.recover_tables.specs.Walk.{Walked, walk_cands, walked_turn, walked_low, walked_start, tells_known}
+use Rattle.recover_tables.specs.Walk.{Walked}
 use Rattle.recover_tables.proofs.load_group.Given as goal
 
 abbrev pub invariant-loop-k : goal.invariant-loop-k

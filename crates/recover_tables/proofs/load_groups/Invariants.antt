@@ -1,21 +1,13 @@
 -- `load_groups`: walking the stripes from base on ends as walking all does; one turn walks a group, and at S nothing is left to walk. Assumes nothing.
-use mathlib.Core.Path.{◌≡◌, refl, sym, ◌∙◌, subst}
+use mathlib.Core.Path.{◌≡◌}
 use mathlib.Core.List.{List}
-use Prim.Native.Nat.{ℕ, ◌+◌, ◌-◌, ◌%◌, ◌≤◌}
-use native.Mathlib.Omega.{arith}
-use native.Mathlib.Nat.{zero-mod}
+use Prim.Native.Nat.{ℕ, ◌-◌, ◌%◌, ◌≤◌}
 use lib.ListN.{length}
-use Rattle.spec.specs.Drives.{View, view_of, seg}
+use Rattle.spec.specs.Drives.{view_of, seg}
 use Rattle.spec.specs.Lists.{up_from, below}
-use Rattle.spec.specs.Segments.{segment_of}
-use Rattle.recover_groups.specs.Bases.{stripes_step, group_len_le}
-use Rattle.recover_groups.specs.Groups.{group_len}
-use Rattle.law_basic.specs.Geometry.{Ranged, ranged, base_next}
-use Rattle.law_basic.specs.Ranges.{length_up_from, up_from_end, below-start}
 use Rattle.recover_addresses.specs.Told.{Known}
-use Rattle.law_drives.specs.Segs.{remaining-low}
 use Rattle.recover_tables.specs.Ready.{last_base}
-use Rattle.recover_tables.specs.Walk.{Walked, walk_cands, walked_none, walked_join, walked_low, tells_known}
+use Rattle.recover_tables.specs.Walk.{Walked}
 use Rattle.recover_tables.proofs.load_groups.Given as goal
 
 abbrev pub invariant-loop-base : goal.invariant-loop-base

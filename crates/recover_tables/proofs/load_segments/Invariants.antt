@@ -1,16 +1,12 @@
 -- `load_segments`: the segments below z are toured, and next is the open one's count where it is below z and remains; one turn tours z. Assumes nothing.
-use mathlib.Core.Path.{◌≡◌, refl, sym, ap, ◌∙◌, subst}
-use mathlib.Core.Bool.{Bool, true, false}
-use Prim.Native.Nat.{ℕ, ◌-◌, ◌≤◌, ◌<◌}
-use native.Mathlib.Omega.{arith}
-use lib.ListN.{length, get_or}
-use Rattle.spec.specs.Drives.{View, view_of}
+use mathlib.Core.Path.{◌≡◌}
+use mathlib.Core.Bool.{true}
+use Prim.Native.Nat.{◌-◌, ◌≤◌, ◌<◌}
+use lib.ListN.{length}
+use Rattle.spec.specs.Drives.{view_of}
 use Rattle.spec.specs.Segments.{segment_of, counted}
-use Rattle.law_basic.specs.Geometry.{ranged}
-use Rattle.law_drives.specs.Rebuilding.{counted-low}
 use Rattle.law_drives.specs.Tables.{seg_at, remains_at}
-use Rattle.recover_tables.specs.Ready.{next_turn, next_now}
-use Rattle.recover_tables.specs.Walk.{Toured, toured_none}
+use Rattle.recover_tables.specs.Walk.{Toured}
 use Rattle.recover_tables.proofs.load_segments.Given as goal
 
 abbrev pub invariant-loop-z : goal.invariant-loop-z

@@ -1,22 +1,12 @@
 -- `load_stripe`: the first i data records are told to the table, and most is the greatest of stamp and theirs; one turn offers record i. Assumes nothing.
-use borrow.Author.Rules.{rules}
-use mathlib.Core.Path.{◌≡◌, refl, sym, ap, ◌∙◌, subst}
-use mathlib.Core.List.{List}
-use Prim.Native.Nat.{ℕ, ◌+◌, ◌-◌, max, ◌≤◌, ◌<◌}
-use native.Mathlib.Omega.{arith}
+use mathlib.Core.Path.{◌≡◌}
+use Prim.Native.Nat.{◌+◌, ◌-◌, max, ◌≤◌}
 use lib.ListN.{length}
-use Rattle.spec.specs.Drives.{View, view_of}
-use Rattle.spec.specs.Layout.{data_drive}
-use Rattle.spec.specs.Params.{data_count}
-use Rattle.spec.specs.Rank.{Cand}
-use Rattle.spec.specs.Segments.{Segment, cand_of, greatest_stamp}
+use Rattle.spec.specs.Drives.{view_of}
+use Rattle.spec.specs.Segments.{greatest_stamp}
 use Rattle.recover_groups.specs.Groups.{segment_in}
-use Rattle.law_basic.specs.Geometry.{ranged}
 use Rattle.recover_addresses.specs.Told.{Tells}
-use Rattle.disk_rank.specs.Ranked.{ranked}
-use Rattle.recover_tables.specs.Ready.{standing_counted, standing_low, group_stripe_below, cand_there, stripe_turn}
-use Rattle.recover_tables.specs.Walk.{first_cands, stripe_cands, first_cands_none, first_all, most_none, tells_none, tells_known}
-use Rattle.law_drives.specs.Spots.{seg-low}
+use Rattle.recover_tables.specs.Walk.{first_cands}
 use Rattle.recover_tables.proofs.load_stripe.Given as goal
 
 abbrev pub invariant-loop-i : goal.invariant-loop-i

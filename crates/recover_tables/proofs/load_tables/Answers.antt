@@ -1,5 +1,4 @@
 -- `load_tables`: the cleared tables are those of no record, and the tour of all segments tells the rest of both. Assumes nothing.
-use borrow.Author.Rules.{rules}
 use mathlib.Core.Path.{refl, ap, ◌∙◌}
 use Prim.Native.Nat.{ℕ}
 use native.Mathlib.Omega.{arith}

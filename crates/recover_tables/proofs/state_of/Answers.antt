@@ -1,5 +1,4 @@
 -- `state_of`: a missing drive or no unsealed segment makes the test of `cond` false, and both numbers are 0; else it is true. Assumes nothing.
-use borrow.Author.Rules.{rules}
 use mathlib.Core.Path.{◌≡◌, sym, ap₂, ◌∙◌}
 use mathlib.Core.Bool.{true, false, ◌&&◌}
 use native.Mathlib.Omega.{arith}
