@@ -2,7 +2,8 @@
 import re
 
 # errors that say that a text does not fit, and not that a fact fails
-UNFIT = re.compile(r"not in scope|unknown name|unknown-name|is neither|no clause|MissingCases|Parse|not a field|has no field|unexpected|is not bound|unresolved", re.I)
+UNFIT = re.compile(r"is not in scope|can be named from here|is no item that|is no name|has no field|cannot be unfolded here|write the clause|no clause covers|explicit fields, and this pattern"
+                   r"|is not a constructor|operand is missing|expected the end|cannot continue|exports no|unresolved import", re.I)
 
 
 def groups_of(path, others=None):
