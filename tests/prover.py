@@ -39,11 +39,13 @@ def link(one, other):
 
 
 def take_checked(root, names, kept):
-    """what rt check kept of these crates of a repository"""
+    """what rt check kept of these crates of a repository, if it did"""
     for name in names:
-        here = root / "crates" / name / "out" / "incremental"
-        if here.is_dir():
-            shutil.copytree(here, kept, copy_function=link, dirs_exist_ok=True)
+        try:
+            shutil.copytree(root / "crates" / name / "out" / "incremental", kept, copy_function=link, dirs_exist_ok=True)
+        except (OSError, shutil.Error):
+            # there is none, or rt puts it elsewhere just now: what is lacking is checked
+            pass
 
 
 def check(name, home, deps, kept, *flags):
