@@ -34,7 +34,7 @@ kit:
 $(OUT)/libsorgizhed.a: crates.txt $(shell find crates -name out -prune -o -type f -not -path '*/wrong/*' -not -path '*/must-fail/*' -print) | kit
 	@mkdir -p $(OUT)
 	@echo "proving and compiling the engine: long from nothing, later only what changed"
-	@{ (cd crates/api_c && rt lib) 2>&1; echo $$? >$(OUT)/status; } | tee $(OUT)/lib.log | grep --line-buffered -E '^(rt|crate)\b' | grep --line-buffered -vE 'begins with|fix-imports' | sed -u 's/^crate \([a-z0-9_]*\):.*/checked: \1/'; \
+	@{ (cd crates/api_c && rt lib) 2>&1; echo $$? >$(OUT)/status; } | tee $(OUT)/lib.log | grep --line-buffered -E '^(rt|crate)\b' | grep --line-buffered -vE 'begins with|fix-imports|chose --jobs' | sed -u 's/^crate \([a-z0-9_]*\):.*/checked: \1/'; \
 	test "$$(cat $(OUT)/status)" = 0 || { tail -40 $(OUT)/lib.log; exit 1; }
 	@cp crates/api_c/out/libapi_c.a $@
 
