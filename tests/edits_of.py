@@ -3,7 +3,7 @@ import re
 
 # errors that say that a text does not fit, and not that a fact fails
 UNFIT = re.compile(r"is not in scope|can be named from here|is no item that|is no name|has no field|cannot be unfolded here|write the clause|no clause covers|explicit fields, and this pattern"
-                   r"|is not a constructor|operand is missing|expected the end|cannot continue|exports no|unresolved import", re.I)
+                   r"|is not a constructor|operand is missing|expected the end|cannot continue|exports no|has no file|unresolved import", re.I)
 
 
 def groups_of(path, others=None):
