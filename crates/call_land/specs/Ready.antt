@@ -22,7 +22,7 @@ use Rattle.spec.specs.Layout.{group, Rec}
 use Rattle.spec.specs.Read.{place_faults}
 use Rattle.spec.specs.Lists.{Opt, is_in, up_from, below, all, is_nil, keep, cons_if, flat}
 use Rattle.spec.specs.Lists.Opt.{none}
-use Rattle.spec.specs.Memory.{Memory, mk_state, slot_count, slots, cell, stripe_in, filled_in_of, landed_in, entry_in_of, entries_in, offset_in, slotOk, state_ok, mark_landed, place_at_of}
+use Rattle.spec.specs.Memory.{Memory, mk_state, slot_count, slots, cell, stripe_in, filled_in_of, landed_in, entry_in_of, entries_in, offset_in, slot_ok_of, state_ok, mark_landed, place_at_of}
 use Rattle.spec.specs.Params.{between, place_block, place_zone, place_drive, parity_count, data_count, in_range, footers, capacity, offline_len, addresses_len, compact_len, inflight_len, drives_of}
 use Rattle.spec.specs.Segments.{remaining, is_place, serial_at, open_segments, open_segment, lowest_bearing}
 use Rattle.law_basic.specs.Geometry.{between-low, between_high, Ranged, ranged as rangedIn}
@@ -90,24 +90,24 @@ module _ (p : Params) (st : State) (fine : state_ok p st ≡ true) where
   abbrev lives : Bool
   lives = eqb st.live 1 && ltb st.missing (2 ^ p.N) && leb (ones st.missing) (parity_count p)
 
-  state_ok_parts : (all (slotOk p st) slots ≡ true) × (all (λ o. ltb o p.S) st.offsets ≡ true)
+  state_ok_parts : (all (slot_ok_of p st) slots ≡ true) × (all (λ o. ltb o p.S) st.offsets ≡ true)
   unfolding state_ok
   state_ok_parts =
       let a = leb st.opened st.serial.0 in
       let b = leb st.next p.S in
-      let c = all (slotOk p st) slots in
+      let c = all (slot_ok_of p st) slots in
       let d = all (λ o. ltb o p.S) st.offsets in
       let h = and_left (lives && a && b && c) d fine in
       (and_right (lives && a && b) c h, and_right (lives && a && b && c) d fine)
 
   pub filled-low : (i : ℕ) → i < 8 → filled_in_of st i ≤ data_count p
-  unfolding slots slot_count slotOk
+  unfolding slots slot_count slot_ok_of
   filled-low i h =
       let a = ltb (stripe_in st i) p.S in
       let b = leb (filled_in_of st i) (data_count p) in
       let c = ltb (get_or st.writes i 0) (2 ^ data_count p) in
       let d = ltb (landed_in st i) (2 ^ p.N) in
-      leb-true (filled_in_of st i) (data_count p) (and_right a b (and_left (a && b) c (and_left (a && b && c) d (all_in_below (slotOk p st) 8 i state_ok_parts.0 h))))
+      leb-true (filled_in_of st i) (data_count p) (and_right a b (and_left (a && b) c (and_left (a && b && c) d (all_in_below (slot_ok_of p st) 8 i state_ok_parts.0 h))))
 
   all_offsets_low : (l : List ℕ) → all (λ o. ltb o p.S) l ≡ true → 0 < p.S → (j : ℕ) → get_or l j 0 < p.S
   all_offsets_low l e h j = go (dec_lt j (length l))

@@ -5,7 +5,7 @@ use Rattle.spec.specs.Calls.Check.{rule, zones}
 use Rattle.spec.specs.Drives.{Store, store_all}
 use Rattle.spec.specs.Lists.{Opt, cons_if, least, all}
 use Rattle.spec.specs.Lists.Opt.{none, some}
-use Rattle.spec.specs.Memory.{Memory, state_ok, state_faults, slots, slotOk}
+use Rattle.spec.specs.Memory.{Memory, state_ok, state_faults, slots, slot_ok_of}
 use Rattle.spec.specs.declared.Answer.{Answer}
 use Rattle.spec.specs.declared.Answer.TheVariants.{Refused, BadZone, Cut}
 use Rattle.spec.specs.declared.Params.{Params}
@@ -128,7 +128,7 @@ module _ (p : Params) (st : State) (h : state_ok p st ≡ true) where
   unfolding state_ok
   refusals_opened_next =
       let a = before && leb st.opened st.serial.0 && leb st.next p.S in
-      let b = all (slotOk p st) slots in
+      let b = all (slot_ok_of p st) slots in
       let c = all (λ o. ltb o p.S) st.offsets in
       and_left a b (and_left (a && b) c h)
 

@@ -7,7 +7,7 @@ use Rattle.std.specs.Int.Count.{ones}
 use Rattle.spec.specs.declared.Params.{Params}
 use Rattle.spec.specs.declared.State.{State}
 use Rattle.spec.specs.Lists.{all}
-use Rattle.spec.specs.Memory.{stripe_in, filled_in_of, landed_in, slotOk, slot_count, slots, state_ok, idle_state}
+use Rattle.spec.specs.Memory.{stripe_in, filled_in_of, landed_in, slot_ok_of, slot_count, slots, state_ok, idle_state}
 use Rattle.spec.specs.Params.{parity_count, data_count}
 use Rattle.law_basic.specs.Geometry.{Ranged, parity-count-low}
 use Rattle.law_basic.specs.Ranges.{and_left, and_right, and_both}
@@ -29,9 +29,9 @@ pub record StateOk (p : Params) (st : State) : Type 0 where
   pub slots_ok : (i : ℕ) → i < 8 → SlotOk p st i
   pub offsets_low : (j : ℕ) → get_or st.offsets j 0 < p.S
 
-slot-ok-of : (p : Params) (st : State) (i : ℕ) → slotOk p st i ≡ true → SlotOk p st i
-unfolding slotOk
-slot-ok-of p st i q =
+slot_ok_of_lem : (p : Params) (st : State) (i : ℕ) → slot_ok_of p st i ≡ true → SlotOk p st i
+unfolding slot_ok_of
+slot_ok_of_lem p st i q =
     let t1 = ltb (stripe_in st i) p.S in
     let t2 = leb (filled_in_of st i) (data_count p) in
     let t3 = ltb (get_or st.writes i 0) (2 ^ data_count p) in
@@ -45,8 +45,8 @@ slot-ok-of p st i q =
       landed_ok = ltb-true (landed_in st i) (2 ^ p.N) (and_right (t1 && t2 && t3) t4 q);
     }
 
-of_slot : (p : Params) (st : State) (i : ℕ) → SlotOk p st i → slotOk p st i ≡ true
-unfolding slotOk
+of_slot : (p : Params) (st : State) (i : ℕ) → SlotOk p st i → slot_ok_of p st i ≡ true
+unfolding slot_ok_of
 of_slot p st i s =
     let t1 = ltb (stripe_in st i) p.S in
     let t2 = leb (filled_in_of st i) (data_count p) in
@@ -73,7 +73,7 @@ state_of_lem p r st q =
     let t3 = leb (ones st.missing) (parity_count p) in
     let t4 = leb st.opened st.serial.0 in
     let t5 = leb st.next p.S in
-    let t6 = all (slotOk p st) slots in
+    let t6 = all (slot_ok_of p st) slots in
     let t7 = all (λ o. ltb o p.S) st.offsets in
     let q6 = and_left (t1 && t2 && t3 && t4 && t5 && t6) t7 q in
     let q5 = and_left (t1 && t2 && t3 && t4 && t5) t6 q6 in
@@ -86,7 +86,7 @@ state_of_lem p r st q =
       missing_few = leb-true (ones st.missing) (parity_count p) (and_right (t1 && t2) t3 q3);
       opened_low = leb-true st.opened st.serial.0 (and_right (t1 && t2 && t3) t4 q4);
       next_low = leb-true st.next p.S (and_right (t1 && t2 && t3 && t4) t5 q5);
-      slots_ok = λ i h. slot-ok-of p st i (all_in (slotOk p st) slots (and_right (t1 && t2 && t3 && t4 && t5) t6 q6) i (in_slots i h));
+      slots_ok = λ i h. slot_ok_of_lem p st i (all_in (slot_ok_of p st) slots (and_right (t1 && t2 && t3 && t4 && t5) t6 q6) i (in_slots i h));
       offsets_low = λ j. go (and_right (t1 && t2 && t3 && t4 && t5 && t6) t7 q) j (dec_lt j (length st.offsets));
     }
   where
@@ -102,7 +102,7 @@ of_state p st s =
     let t3 = leb (ones st.missing) (parity_count p) in
     let t4 = leb st.opened st.serial.0 in
     let t5 = leb st.next p.S in
-    let t6 = all (slotOk p st) slots in
+    let t6 = all (slot_ok_of p st) slots in
     let t7 = all (λ o. ltb o p.S) st.offsets in
     and_both (t1 && t2 && t3 && t4 && t5 && t6) t7
     (and_both (t1 && t2 && t3 && t4 && t5) t6
@@ -113,7 +113,7 @@ of_state p st s =
     (le-leb (ones st.missing) (parity_count p) s.missing_few))
     (le-leb st.opened st.serial.0 s.opened_low))
     (le-leb st.next p.S s.next_low))
-    (in_all (slotOk p st) slots (λ i m. of_slot p st i (s.slots_ok i (slots_in i m)))))
+    (in_all (slot_ok_of p st) slots (λ i m. of_slot p st i (s.slots_ok i (slots_in i m)))))
     (in_all (λ o. ltb o p.S) st.offsets (λ a m. let (k, h, e) = get_d_in st.offsets 0 a m in lt-ltb a p.S (subst (λ (x : ℕ). x < p.S) (sym e) (s.offsets_low k))))
 
 pub idle_ok : (p : Params) → Ranged p → (gone t s o x : ℕ) → gone < 2 ^ p.N → ones gone ≤ 1 → o ≤ s → x ≤ p.S → state_ok p (idle_state 1 gone t s o x) ≡ true

@@ -12,7 +12,7 @@ use Rattle.spec.specs.declared.Params.{Params}
 use Rattle.spec.specs.declared.State.{State}
 use Rattle.spec.specs.Bytes.{le_of, part}
 use Rattle.spec.specs.Lists.{up_from, below, all, cons_if, keep, tally}
-use Rattle.spec.specs.Memory.{mk_state, numbers_at, slot_count, slots, stripe_in, filled_in_of, landed_in, slotOk, state_ok, state_of}
+use Rattle.spec.specs.Memory.{mk_state, numbers_at, slot_count, slots, stripe_in, filled_in_of, landed_in, slot_ok_of, state_ok, state_of}
 use Rattle.spec.specs.Params.{in_range, data_count}
 use Rattle.mem_codec.specs.Codec.{state_read}
 use Rattle.law_basic.specs.Geometry.{ranged}
@@ -200,14 +200,14 @@ module _ (p : Params) (bs : List ℕ) (ok : in_range p ≡ true) where
   abbrev landed_in_holds : ℕ → Bool
   landed_in_holds i = ltb (get_or (numbers_at 1 8 78 bs) i 0) (2 ^ p.N)
 
-  slots_by_parts : all (slotOk p said) slots ≡ (all stripe_in_holds (below 8) && all filled_in (below 8) && all writes_in_holds (below 8) && all landed_in_holds (below 8))
-  unfolding slotOk stripe_in filled_in_of landed_in slots slot_count
+  slots_by_parts : all (slot_ok_of p said) slots ≡ (all stripe_in_holds (below 8) && all filled_in (below 8) && all writes_in_holds (below 8) && all landed_in_holds (below 8))
+  unfolding slot_ok_of stripe_in filled_in_of landed_in slots slot_count
   slots_by_parts =
       all_and (λ (i : ℕ). stripe_in_holds i && filled_in i && writes_in_holds i) landed_in_holds (below 8)
       ∙ ap (λ (x : Bool). x && all landed_in_holds (below 8)) (all_and (λ (i : ℕ). stripe_in_holds i && filled_in i) writes_in_holds (below 8)
       ∙ ap (λ (x : Bool). x && all writes_in_holds (below 8)) (all_and stripe_in_holds filled_in (below 8)))
 
-  slots-past_none : eqb (slots_past p bs) 0 ≡ all (slotOk p said) slots
+  slots-past_none : eqb (slots_past p bs) 0 ≡ all (slot_ok_of p said) slots
   unfolding slots_past
   slots-past_none =
       let a = past_in 4 8 30 p.S bs in

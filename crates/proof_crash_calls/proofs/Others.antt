@@ -19,7 +19,7 @@ use Rattle.spec.specs.History.Event.{calls}
 use Rattle.spec.specs.Landing.{land_checks}
 use Rattle.spec.specs.Lists.{Opt, all}
 use Rattle.spec.specs.Lists.Opt.{none, some}
-use Rattle.spec.specs.Memory.{Memory, slots, idle_state, zero_state, slotOk, state_ok}
+use Rattle.spec.specs.Memory.{Memory, slots, idle_state, zero_state, slot_ok_of, state_ok}
 use Rattle.spec.specs.Params.{in_range, named, parity_count}
 use Rattle.spec.specs.Read.{read_plan, fill_plan}
 use Rattle.spec.specs.Reclaim.{victim, reclaim_checks}
@@ -117,7 +117,7 @@ zero_bad p = not_so (state_ok p zero_state) (λ q. out q)
 
     out : state_ok p zero_state ≡ true → ⊥
     out q = unfold state_ok zero_state idle_state in clash
-        (live (eqb 0 1) (ltb 0 (2 ^ p.N)) (leb (ones 0) (parity_count p)) (leb 0 0) (leb 0 p.S) (all (slotOk p zero_state) slots) (all (λ o. ltb o p.S) (replicate 64 0)) q) refl
+        (live (eqb 0 1) (ltb 0 (2 ^ p.N)) (leb (ones 0) (parity_count p)) (leb 0 0) (leb 0 p.S) (all (slot_ok_of p zero_state) slots) (all (λ o. ltb o p.S) (replicate 64 0)) q) refl
 
 -- the state's numbers are out of range
 off_bad : (p : Params) (m : Memory) → m.state ≡ zero_state → state_ok p m.state ≡ true → ⊥

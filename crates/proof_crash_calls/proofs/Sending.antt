@@ -13,7 +13,7 @@ use Rattle.spec.specs.declared.State.{State}
 use Rattle.spec.specs.Drives.{View, Store, store_view_of, store_all, header_stores, empty_count, new_seg}
 use Rattle.spec.specs.Lists.{all, any, keep, is_nil, index_of}
 use Rattle.spec.specs.Memory.{slot_count, slots, stripe_in, filled_in_of, landed_in, is_free, is_full, is_filling, in_flight, free_slot, filling_slot, has_filling}
-use Rattle.spec.specs.Memory.{slotOk, state_ok, set_open, begin_stripe}
+use Rattle.spec.specs.Memory.{slot_ok_of, state_ok, set_open, begin_stripe}
 use Rattle.spec.specs.Params.{data_count, place_block, place_drive, parity_count}
 use Rattle.spec.specs.Write.{must_open, opens, no_serial, other_group, must_wait, opened_by, slot_for, begun_by}
 use Rattle.law_basic.specs.Geometry.{Ranged, data_count-low}
@@ -58,18 +58,18 @@ pub record Asked (p : Params) (v : View) (st : State) : Type 0 where
 
 -- ---- the state's ranges
 
-slots-part : (p : Params) (st : State) → state_ok p st ≡ true → all (slotOk p st) slots ≡ true
+slots-part : (p : Params) (st : State) → state_ok p st ≡ true → all (slot_ok_of p st) slots ≡ true
 unfolding state_ok
 slots-part p st e =
     let x = eqb st.live 1 && ltb st.missing (2 ^ p.N) && leb (ones st.missing) (parity_count p) && leb st.opened st.serial.0 && leb st.next p.S in
-    let y = all (slotOk p st) slots in
+    let y = all (slot_ok_of p st) slots in
     and_right x y (and_left (x && y) (all (λ o. ltb o p.S) st.offsets) e)
 
 pub slots_ok : (p : Params) (st : State) → state_ok p st ≡ true → (i : ℕ) → i < 8 → (stripe_in st i < p.S) × (landed_in st i < 2 ^ p.N)
-slots_ok p st e i il = split (all_has (slotOk p st) slots (slots-part p st e) i (has_slot i il))
+slots_ok p st e i il = split (all_has (slot_ok_of p st) slots (slots-part p st e) i (has_slot i il))
   where
-    split : slotOk p st i ≡ true → (stripe_in st i < p.S) × (landed_in st i < 2 ^ p.N)
-    split q = unfold slotOk in
+    split : slot_ok_of p st i ≡ true → (stripe_in st i < p.S) × (landed_in st i < 2 ^ p.N)
+    split q = unfold slot_ok_of in
         let x : (ltb (stripe_in st i) p.S && leb (filled_in_of st i) (data_count p) && ltb (get_or st.writes i 0) (2 ^ data_count p)) ≡ true =
         and_left (ltb (stripe_in st i) p.S && leb (filled_in_of st i) (data_count p) && ltb (get_or st.writes i 0) (2 ^ data_count p)) (ltb (landed_in st i) (2 ^ p.N)) q in
         let y : (ltb (stripe_in st i) p.S && leb (filled_in_of st i) (data_count p)) ≡ true =

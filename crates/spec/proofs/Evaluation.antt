@@ -23,7 +23,7 @@ use Rattle.spec.specs.Lists.{up_from, below, all, any, is_member_of, cons_if, ke
 use Rattle.spec.specs.Lists.{same_list, pad_to, pieces, zipped, powers, only, is_in}
 use Rattle.spec.specs.Memory.{slot_count, slots, cell, idle_state, zero_state, state_sections, section_len, section_at, state_len, numbers_at, section_of}
 use Rattle.spec.specs.Memory.{number_of, state_numbers, section_bytes, state_bytes, state_of, stripe_in, filled_in_of, landed_in, is_write, entry_in_of, entries_in}
-use Rattle.spec.specs.Memory.{offset_in, is_free, is_full, is_filling, in_flight, free_slot, filling_slot, has_filling, holds_at, holds, slotOk}
+use Rattle.spec.specs.Memory.{offset_in, is_free, is_full, is_filling, in_flight, free_slot, filling_slot, has_filling, holds_at, holds, slot_ok_of}
 use Rattle.spec.specs.Memory.{state_ok, state_faults, set_stamp, set_open, set_closed, begin_stripe, add_entry, landed_mask, mark_landed, free_stripe, place_at_of}
 use Rattle.spec.specs.Memory.{set_place, compact_at, shown_at, slot_byte, slot_block, set_slot_block, set_slot_parity}
 use Rattle.spec.specs.Params.{between, block_sizes, parity_count, data_count, most_addresses, in_range, record_table, record_widths, spare_len, per_footer, footers, most_with, offline_len}
@@ -62,7 +62,7 @@ unfolding ones ones_in kind values is_refused is_refused_as stamp_told is_cut_of
     keep tally is_nil suc_unless index_of flat total greatest least insert_once rising first_or same_list pad_to pieces zipped powers only is_in slot_count
     slots cell idle_state zero_state state_sections section_len section_at state_len numbers_at section_of number_of state_numbers section_bytes state_bytes
     state_of stripe_in filled_in_of landed_in is_write entry_in_of entries_in offset_in is_free is_full is_filling in_flight free_slot filling_slot has_filling holds_at
-    holds slotOk state_ok state_faults set_stamp set_open set_closed begin_stripe add_entry landed_mask mark_landed free_stripe place_at_of set_place compact_at
+    holds slot_ok_of state_ok state_faults set_stamp set_open set_closed begin_stripe add_entry landed_mask mark_landed free_stripe place_at_of set_place compact_at
     shown_at slot_byte slot_block set_slot_block set_slot_parity between block_sizes parity_count data_count most_with most_addresses in_range record_table
     record_widths spare_len per_footer footers capacity unit_len zone_len drive_len image_len pointers_len offline_len addresses_len compact_len inflight_len
     place_of place_block place_zone place_drive place_byte no_drive named drives_of present absent parity_rec parity_piece encode_block encode_rec encode_piece

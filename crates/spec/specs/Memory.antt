@@ -193,8 +193,8 @@ unfoldable pub holds : State → ℕ → ℕ → Bool
 holds st a t = any (holds_at st a t) (below 64)
 
 -- 01, Refusals, 9: each number of the state in its range
-unfoldable pub slotOk : Params → State → ℕ → Bool
-slotOk p st i =
+unfoldable pub slot_ok_of : Params → State → ℕ → Bool
+slot_ok_of p st i =
     ltb (stripe_in st i) p.S && leb (filled_in_of st i) (data_count p) && ltb (get_or st.writes i 0) (2 ^ data_count p) && ltb (landed_in st i) (2 ^ p.N)
 
 -- 01, Refusals, 9: no state number out of range
@@ -202,7 +202,7 @@ unfoldable pub state_ok : Params → State → Bool
 unfolding parity_count
 state_ok p st =
     eqb st.live 1 && ltb st.missing (2 ^ p.N) && leb (ones st.missing) (parity_count p) && leb st.opened st.serial.0 && leb st.next p.S
-    && all (slotOk p st) slots && all (λ o. ltb o p.S) st.offsets
+    && all (slot_ok_of p st) slots && all (λ o. ltb o p.S) st.offsets
 
 -- 01, Refusals, 9: a state number out of range names zone 0
 unfoldable pub state_faults : Params → State → List ℕ

@@ -44,20 +44,20 @@ Else5 = Lts.Else5 Tie.the-claims Reads.Pre Reads.Post Tie.handed_clauses
 abbrev After-scarce : Type 0
 After-scarce = Lts.After-scarce Tie.the-claims Reads.Pre Reads.Post Tie.handed_clauses
 
-abbrev diskIn : Start → Disk
-diskIn s = mk_disk s.args.image.now s.args.pointers.now
+abbrev disk_in : Start → Disk
+disk_in s = mk_disk s.args.image.now s.args.pointers.now
 
-abbrev memoryIn : Start → Memory
-memoryIn s = mk_memory (state_of s.args.bytes.now) s.args.addresses.now s.args.compact.now s.args.inflight.now
+abbrev memory_in : Start → Memory
+memory_in s = mk_memory (state_of s.args.bytes.now) s.args.addresses.now s.args.compact.now s.args.inflight.now
 
 -- the first refusal from the i-th check on
 abbrev from : Start → ℕ → Opt Answer
-from s i = close_from s.args.p s.args.offline.now (diskIn s) (memoryIn s) i
+from s i = close_from s.args.p s.args.offline.now (disk_in s) (memory_in s) i
 
 pub returns-then-not-in_range : goal.returns-then-not-in_range
 returns-then-not-in_range c =
     let start = c.before.before.before.before.before.before.before.before.before.before in
-    close_range_fails c.args.p c.args.offline.now (diskIn start) (memoryIn start) (sym c.in_range.ensures ∙ not-true c.in_range.result c.if-not-in_range.true-raw)
+    close_range_fails c.args.p c.args.offline.now (disk_in start) (memory_in start) (sym c.in_range.ensures ∙ not-true c.in_range.result c.if-not-in_range.true-raw)
 
 pub lent_ok-requires : goal.lent_ok-requires
 lent_ok-requires c = sym c.in_range.ensures ∙ not-false c.in_range.result c.if-not-in_range.false-raw
@@ -65,9 +65,9 @@ lent_ok-requires c = sym c.in_range.ensures ∙ not-false c.in_range.result c.if
 pub returns-then-not-lent_ok : goal.returns-then-not-lent_ok
 returns-then-not-lent_ok c =
     let start = c.before.before.before.before.before.before.before.before.before.before.before.before in
-    close_lengths_fail c.args.p c.args.offline.now (diskIn start) (memoryIn start)
-    (sym (c.lent_ok.ensures (memoryIn start).state) ∙ not-true c.lent_ok.result c.if-not-lent_ok.true-raw)
-    ∙ close_range_passes c.args.p c.args.offline.now (diskIn start) (memoryIn start)
+    close_lengths_fail c.args.p c.args.offline.now (disk_in start) (memory_in start)
+    (sym (c.lent_ok.ensures (memory_in start).state) ∙ not-true c.lent_ok.result c.if-not-lent_ok.true-raw)
+    ∙ close_range_passes c.args.p c.args.offline.now (disk_in start) (memory_in start)
     (sym c.in_range.ensures ∙ not-false c.in_range.result c.if-not-in_range.false-raw)
 
 module _ (c : Else2) where
@@ -78,23 +78,23 @@ module _ (c : Else2) where
   ranged =
       sym c.before.before.before.in_range.ensures ∙ not-false c.before.before.before.in_range.result c.before.before.if-not-in_range.false-raw
 
-  lent : lent_ok_of begun.args.p begun.args.offline.now (diskIn begun) (memoryIn begun) ≡ true
-  lent = sym (c.before.lent_ok.ensures (memoryIn begun).state) ∙ not-false c.before.lent_ok.result c.if-not-lent_ok.false-raw
+  lent : lent_ok_of begun.args.p begun.args.offline.now (disk_in begun) (memory_in begun) ≡ true
+  lent = sym (c.before.lent_ok.ensures (memory_in begun).state) ∙ not-false c.before.lent_ok.result c.if-not-lent_ok.false-raw
 
   -- 1 and 2 do not hold
   fitting : from begun 2 ≡ from begun 0
   fitting =
-      close_lengths_pass begun.args.p begun.args.offline.now (diskIn begun) (memoryIn begun) lent ∙ close_range_passes begun.args.p begun.args.offline.now (diskIn begun) (memoryIn begun) ranged
+      close_lengths_pass begun.args.p begun.args.offline.now (disk_in begun) (memory_in begun) lent ∙ close_range_passes begun.args.p begun.args.offline.now (disk_in begun) (memory_in begun) ranged
 
 pub list_rule-rule-requires : goal.list_rule-rule-requires
 list_rule-rule-requires c =
-    let s = begun c.before in record { p_value = ranged c.before; offline_len = (lent_long_lem s.args.p s.args.offline.now (diskIn s) (memoryIn s) (lent c.before)).5 }
+    let s = begun c.before in record { p_value = ranged c.before; offline_len = (lent_long_lem s.args.p s.args.offline.now (disk_in s) (memory_in s) (lent c.before)).5 }
 
 pub returns-then-rule-ne0 : goal.returns-then-rule-ne0
 returns-then-rule-ne0 c =
     let at_else = c.before.before.before in
     let s = begun at_else in
-    close_list_fails s.args.p s.args.offline.now (diskIn s) (memoryIn s) c.list_rule-rule.result c.list_rule-rule.ensures c.if-rule-ne0.true ∙ fitting at_else
+    close_list_fails s.args.p s.args.offline.now (disk_in s) (memory_in s) c.list_rule-rule.result c.list_rule-rule.ensures c.if-rule-ne0.true ∙ fitting at_else
 
 module _ (c : Else3) where
   abbrev listed : Start
@@ -103,58 +103,58 @@ module _ (c : Else3) where
   -- nor do 10 and the narrow 1
   enough : from listed 4 ≡ from listed 0
   enough =
-      close_list_passes listed.args.p listed.args.offline.now (diskIn listed) (memoryIn listed) c.before.list_rule-rule.result c.before.list_rule-rule.ensures c.if-rule-ne0.false
+      close_list_passes listed.args.p listed.args.offline.now (disk_in listed) (memory_in listed) c.before.list_rule-rule.result c.before.list_rule-rule.ensures c.if-rule-ne0.false
       ∙ fitting c.before.before
 
 pub returns-then-missing-ne0 : goal.returns-then-missing-ne0
 returns-then-missing-ne0 c =
     let s = listed c.before.before in
-    close_missing_fails s.args.p s.args.offline.now (diskIn s) (memoryIn s) (λ e. c.if-missing-ne0.true (s.requires.1 ∙ e)) ∙ enough c.before.before
+    close_missing_fails s.args.p s.args.offline.now (disk_in s) (memory_in s) (λ e. c.if-missing-ne0.true (s.requires.1 ∙ e)) ∙ enough c.before.before
 
 -- nor does 3
 healthy : (c : Else4) → from (listed c.before) 5 ≡ from (listed c.before) 0
 healthy c =
     let s = listed c.before in
-    close_missing_passes s.args.p s.args.offline.now (diskIn s) (memoryIn s) (sym s.requires.1 ∙ c.if-missing-ne0.false) ∙ enough c.before
+    close_missing_passes s.args.p s.args.offline.now (disk_in s) (memory_in s) (sym s.requires.1 ∙ c.if-missing-ne0.false) ∙ enough c.before
 
 -- whether a stripe is filling
-filling_is : (c : After-is_slot) → has_filling (listed c.before.before).args.p (memoryIn (listed c.before.before)).state ≡ c.is_slot.result
+filling_is : (c : After-is_slot) → has_filling (listed c.before.before).args.p (memory_in (listed c.before.before)).state ≡ c.is_slot.result
 filling_is c =
     let s = listed c.before.before in
-    sym (slot_is s.args.p (memoryIn s).state s.args.slot s.requires.0) ∙ sym c.is_slot.ensures
+    sym (slot_is s.args.p (memory_in s).state s.args.slot s.requires.0) ∙ sym c.is_slot.ensures
 
 pub returns-then-not-is_slot : goal.returns-then-not-is_slot
 returns-then-not-is_slot c =
     let at_else' = c.before.before.before in
     let at_else = at_else'.before in
     let s = listed at_else in
-    filling_fails s.args.p s.args.offline.now (diskIn s) (memoryIn s) (filling_is c.before.before ∙ not-true c.is_slot.result c.if-not-is_slot.true-raw) ∙ healthy at_else'
+    filling_fails s.args.p s.args.offline.now (disk_in s) (memory_in s) (filling_is c.before.before ∙ not-true c.is_slot.result c.if-not-is_slot.true-raw) ∙ healthy at_else'
 
 module _ (c : Else5) where
   abbrev two : Else2
   two = c.before.before.before.before.before
 
-  filling : has_filling (begun two).args.p (memoryIn (begun two)).state ≡ true
+  filling : has_filling (begun two).args.p (memory_in (begun two)).state ≡ true
   filling = filling_is c.before ∙ not-false c.before.is_slot.result c.if-not-is_slot.false-raw
 
 pub scarce-requires : goal.scarce-requires
 scarce-requires c =
     let s = begun (two c.before) in
-    let l = lent_long_lem s.args.p s.args.offline.now (diskIn s) (memoryIn s) (lent (two c.before)) in record { p_value = ranged (two c.before); pointers_len = (l.1, l.5, omega arith) }
+    let l = lent_long_lem s.args.p s.args.offline.now (disk_in s) (memory_in s) (lent (two c.before)) in record { p_value = ranged (two c.before); pointers_len = (l.1, l.5, omega arith) }
 
-scarce-is : (c : After-scarce)
-    → scarce (begun (two c.before)).args.p (seen (begun (two c.before)).args.p (begun (two c.before)).args.offline.now (diskIn (begun (two c.before)))) 1
+scarce_is : (c : After-scarce)
+    → scarce (begun (two c.before)).args.p (seen (begun (two c.before)).args.p (begun (two c.before)).args.offline.now (disk_in (begun (two c.before)))) 1
     ≡ c.scarce.result
-scarce-is c =
+scarce_is c =
     let s = begun (two c.before) in
-    sym (c.scarce.ensures s.args.image.now (lent_long_lem s.args.p s.args.offline.now (diskIn s) (memoryIn s) (lent (two c.before))).0)
+    sym (c.scarce.ensures s.args.image.now (lent_long_lem s.args.p s.args.offline.now (disk_in s) (memory_in s) (lent (two c.before))).0)
 
 pub scarce_checks-requires : goal.scarce_checks-requires
 scarce_checks-requires c =
     let at_else = c.before.before.before in
     let w = two at_else in
     let s = begun w in
-    let l = lent_long_lem s.args.p s.args.offline.now (diskIn s) (memoryIn s) (lent w) in
+    let l = lent_long_lem s.args.p s.args.offline.now (disk_in s) (memory_in s) (lent w) in
     record { p_value = ranged w; whole = (record { image_long = l.0; pointers_long = l.1 }, l.5); addresses_len = (l.2, s.requires.2) }
 
 pub returns-then-scarce : goal.returns-then-scarce
@@ -163,7 +163,7 @@ returns-then-scarce c =
     let at_else = at_scarce.before in
     let at_else' = at_else.before.before in
     let s = begun (two at_else) in
-    c.scarce_checks.ensures ∙ scarce_last s.args.p s.args.offline.now (diskIn s) (memoryIn s) (filling at_else) (scarce-is at_scarce ∙ c.if-scarce.true)
+    c.scarce_checks.ensures ∙ scarce_last s.args.p s.args.offline.now (disk_in s) (memory_in s) (filling at_else) (scarce_is at_scarce ∙ c.if-scarce.true)
     ∙ healthy at_else'
 
 pub state_ok-requires : goal.state_ok-requires
@@ -177,7 +177,7 @@ returns-then-not-state_ok c =
     let at_else = at_scarce.before in
     let at_else' = at_else.before.before in
     let s = begun (two at_else) in
-    close_state_fails s.args.p s.args.offline.now (diskIn s) (memoryIn s) (filling at_else) (scarce-is at_scarce ∙ c.if-scarce.false)
+    close_state_fails s.args.p s.args.offline.now (disk_in s) (memory_in s) (filling at_else) (scarce_is at_scarce ∙ c.if-scarce.false)
     (sym c.state_ok.ensures ∙ not-true c.state_ok.result c.if-not-state_ok.true-raw) ∙ healthy at_else'
 
 pub returns : goal.returns
@@ -186,5 +186,5 @@ returns c =
     let at_else = at_scarce.before in
     let at_else' = at_else.before.before in
     let s = begun (two at_else) in
-    close_state_passes s.args.p s.args.offline.now (diskIn s) (memoryIn s) (filling at_else) (scarce-is at_scarce ∙ c.if-scarce.false)
+    close_state_passes s.args.p s.args.offline.now (disk_in s) (memory_in s) (filling at_else) (scarce_is at_scarce ∙ c.if-scarce.false)
     (sym c.state_ok.ensures ∙ not-false c.state_ok.result c.if-not-state_ok.false-raw) ∙ healthy at_else'

@@ -68,8 +68,8 @@ abbrev start : After-checks → Start
 start c =
     c.before.before.before.before.before.before.before.before.before.before
 
-checked-is : (c : After-checks) → checked c.checks-c.result ≡ close_refusal (start c).args.p (start c).args.offline.now (disk (start c)) (memory (start c))
-checked-is c =
+checked_is : (c : After-checks) → checked c.checks-c.result ≡ close_refusal (start c).args.p (start c).args.offline.now (disk (start c)) (memory (start c))
+checked_is c =
     let s = start c in
     let a = s.args in
     subst (λ (x : State). checked c.checks-c.result ≡ close_refusal a.p a.offline.now (disk s) (mk_memory x a.addresses.now a.compact.now a.inflight.now))
@@ -80,13 +80,13 @@ returns-in-Fail c =
     let at_checks = c.before.before.before in
     let start' = at_checks.before.before.before.before.before.before.before.before.before.before in
     λ n. close_refused c.args.p c.args.offline.now (disk start') (memory start') c.kept.result
-    (sym (checked-is at_checks) ∙ ap checked c.in-Fail.is ∙ ap (λ (x : Change). some x.answer) (sym c.kept.ensures)) n
+    (sym (checked_is at_checks) ∙ ap checked c.in-Fail.is ∙ ap (λ (x : Change). some x.answer) (sym c.kept.ensures)) n
 
 -- no check holds
 passed : (c : After-enum_told)
     → close_refusal (start c.before).args.p (start c.before).args.offline.now (disk (start c.before)) (memory (start c.before)) ≡ none
 passed c =
-    sym (checked-is c.before) ∙ ap checked c.in_default.is
+    sym (checked_is c.before) ∙ ap checked c.in_default.is
 
 pub row_at-row-requires : goal.row_at-row-requires
 row_at-row-requires c =

@@ -43,12 +43,12 @@ returns-then-not-in_range c =
     λ st e. empty_range_fails c.args.p c.args.offline.now (disk start) (memory start st) c.args.address.0 (sym in_range_holds.ensures ∙ not-true in_range_holds.result c.if-not-in_range.true-raw)
 
 -- 1 passed
-abbrev start-1 : Else1 → Start
-start-1 c = c.before.before.before.before.before.before.before.before
+abbrev start_1 : Else1 → Start
+start_1 c = c.before.before.before.before.before.before.before.before
 
-ranged : (c : Else1) (st : State) → from (start-1 c) st 1 ≡ from (start-1 c) st 0
+ranged : (c : Else1) (st : State) → from (start_1 c) st 1 ≡ from (start_1 c) st 0
 ranged c st =
-    let s = start-1 c in
+    let s = start_1 c in
     let in_range_holds = c.before.in_range in
     empty_range_passes s.args.p s.args.offline.now (disk s) (memory s st) s.args.address.0 (sym in_range_holds.ensures ∙ not-false in_range_holds.result c.if-not-in_range.false-raw)
 
@@ -64,19 +64,19 @@ returns-then-not-lent_ok c =
     ∙ ranged at_else st
 
 -- 1 and 2 passed
-abbrev start-2 : Else2 → Start
-start-2 c = start-1 c.before.before
+abbrev start_2 : Else2 → Start
+start_2 c = start_1 c.before.before
 
-lent : (c : Else2) (st : State) → from (start-2 c) st 2 ≡ from (start-2 c) st 0
+lent : (c : Else2) (st : State) → from (start_2 c) st 2 ≡ from (start_2 c) st 0
 lent c st =
-    let s = start-2 c in
+    let s = start_2 c in
     let lent_ok = c.before.lent_ok in
     empty_lengths_pass s.args.p s.args.offline.now (disk s) (memory s st) s.args.address.0 (sym (lent_ok.ensures st) ∙ not-false lent_ok.result c.if-not-lent_ok.false-raw)
     ∙ ranged c.before.before st
 
 pub list_rule-rule-requires : goal.list_rule-rule-requires
 list_rule-rule-requires c =
-    let s = start-2 c.before in
+    let s = start_2 c.before in
     let in_range_holds = c.in_range in
     let whole = sym (c.lent_ok.ensures zero_state)
     ∙ not-false c.lent_ok.result c.if-not-lent_ok.false-raw in
@@ -89,21 +89,21 @@ list_rule-rule-requires c =
 pub returns-then-rule-ne0 : goal.returns-then-rule-ne0
 returns-then-rule-ne0 c =
     let at_else = c.before.before.before in
-    let s = start-2 at_else in
+    let s = start_2 at_else in
     let rule = c.list_rule-rule in
     λ st e. empty_list_fails s.args.p s.args.offline.now (disk s) (memory s st) s.args.address.0 rule.result rule.ensures c.if-rule-ne0.true ∙ lent at_else st
 
 -- so are 10 and the narrow 1
-listed : (c : Else3) (st : State) → from (start-2 c.before.before) st 4 ≡ from (start-2 c.before.before) st 0
+listed : (c : Else3) (st : State) → from (start_2 c.before.before) st 4 ≡ from (start_2 c.before.before) st 0
 listed c st =
-    let s = start-2 c.before.before in
+    let s = start_2 c.before.before in
     let rule = c.before.list_rule-rule in
     empty_list_passes s.args.p s.args.offline.now (disk s) (memory s st) s.args.address.0 rule.result rule.ensures c.if-rule-ne0.false ∙ lent c.before.before st
 
 pub returns : goal.returns
 returns c =
     let at_else = c.before.before.before.before in
-    let s = start-2 at_else in
+    let s = start_2 at_else in
     let a = s.args in
     λ st e. c.later_checks.ensures ∙ ap (λ (x : ℕ). empty_third_holds x a.p.L a.address.0) (sym e)
     ∙ empty_third a.p a.offline.now (disk s) (memory s st) a.address.0 ∙ listed c.before.before st

@@ -49,15 +49,15 @@ abbrev start : After-checks → Start
 start c = c.before.before.before.before.before.before.before.before.before
 
 -- the first refusal among the first six checks
-checked-is : (c : After-checks) → checked c.checks-c.result ≡ empty_first (start c).args.p (start c).args.offline.now (disk (start c)) (memory (start c)) (start c).args.address.0 0
-checked-is c = c.checks-c.ensures (start c).args.state refl
+checked_is : (c : After-checks) → checked c.checks-c.result ≡ empty_first (start c).args.p (start c).args.offline.now (disk (start c)) (memory (start c)) (start c).args.address.0 0
+checked_is c = c.checks-c.ensures (start c).args.state refl
 
 pub returns-in-Fail : goal.returns-in-Fail
 returns-in-Fail c =
     let at_checks = c.before.before.before in
     let start' = at_checks.before.before.before.before.before.before.before.before.before in
     let a = c.args in
-    let e = sym (checked-is at_checks) ∙ ap checked c.in-Fail.is ∙ ap (λ (x : Change). some x.answer) (sym c.kept.ensures) in
+    let e = sym (checked_is at_checks) ∙ ap checked c.in-Fail.is ∙ ap (λ (x : Change). some x.answer) (sym c.kept.ensures) in
     λ n. empty_refused a.p a.offline.now (disk start') (memory start') a.address.0 n c.kept.result
     (first_refuses 6 (empty_checks a.p (lent_ok_of a.p a.offline.now (disk start') (memory start')) (seen a.p a.offline.now (disk start')) (memory start') a.address.0) c.kept.result.answer e)
 
@@ -66,7 +66,7 @@ passed :
     (c : After-enum_told)
     → empty_first (start c.before).args.p (start c.before).args.offline.now (disk (start c.before)) (memory (start c.before))
     (start c.before).args.address.0 0 ≡ none
-passed c = sym (checked-is c.before) ∙ ap checked c.in_default.is
+passed c = sym (checked_is c.before) ∙ ap checked c.in_default.is
 
 -- the eighth is the state's
 slot_of_lem : (c : After-filling_slot) → c.filling_slot.result ≡ filling_slot (start c.before.before).args.p (start c.before.before).args.state
@@ -94,8 +94,8 @@ state_ok-requires c =
     record { p_value = (first_passed c.args.p c.args.offline.now (disk start') (memory start') c.args.address.0 (passed at_enum_told)).0; bytes_len = c.requires.1 }
 
 -- no stripe is filling
-idle-is : (c : Else1) → has_filling (start c.before.before.before).args.p (start c.before.before.before).args.state ≡ false
-idle-is c =
+idle_is : (c : Else1) → has_filling (start c.before.before.before).args.p (start c.before.before.before).args.state ≡ false
+idle_is c =
     let at_checks = c.before.before.before in
     let a = (start at_checks).args in
     let i = c.before.filling_slot.result in
@@ -116,7 +116,7 @@ returns-then-not-state_ok c =
     let start' = at_enum_told.before.before.before.before.before.before.before.before.before.before in
     let a = c.args in
     let bad : state_ok a.p a.state ≡ false = sym (state_is at_state_ok) ∙ not-true c.state_ok.result c.if-not-state_ok.true-raw in
-    let e = sym (empty_state_fails a.p a.offline.now (disk start') (memory start') a.address.0 (passed at_enum_told) (idle-is at_else) bad) in
+    let e = sym (empty_state_fails a.p a.offline.now (disk start') (memory start') a.address.0 (passed at_enum_told) (idle_is at_else) bad) in
     λ n. empty_refused a.p a.offline.now (disk start') (memory start') a.address.0 n c.kept-then-not-state_ok.result (e ∙ ap (λ (x : Change). some x.answer) (sym c.kept-then-not-state_ok.ensures))
 
 pub returns : goal.returns
@@ -127,7 +127,7 @@ returns c =
     let start' = at_enum_told.before.before.before.before.before.before.before.before.before.before in
     let a = c.args in
     let good : state_ok a.p a.state ≡ true = sym (state_is at_state_ok) ∙ not-false c.state_ok.result c.if-not-state_ok.false-raw in
-    let idle = idle-is at_else in
+    let idle = idle_is at_else in
     let e = sym (empty_state_passes a.p a.offline.now (disk start') (memory start') a.address.0 (passed at_enum_told) idle good) in
     let f = c.front_of-f in
     λ n. empty_nothing a.p a.offline.now (disk start') (memory start') a.address.0 n e idle c.nothing.result (c.nothing.ensures ∙ ap (kept_as Nothing) f.ensures)

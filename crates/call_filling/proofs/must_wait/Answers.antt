@@ -24,12 +24,12 @@ Start = Lts.Start Tie.the-claims Reads.Pre Reads.Post Tie.handed_clauses
 filling_is : (c : Start) → not c.args.a.begins ≡ true → has_filling c.args.p (behind c.args.f) ≡ true
 filling_is c e = not-false (has_filling c.args.p (behind c.args.f)) (ap (λ (x : Aim). x.begins) (sym c.requires.a_value) ∙ not-true c.args.a.begins e)
 
-filling-not : (c : Start) → not c.args.a.begins ≡ false → has_filling c.args.p (behind c.args.f) ≡ false
-filling-not c e = not-true (has_filling c.args.p (behind c.args.f)) (ap (λ (x : Aim). x.begins) (sym c.requires.a_value) ∙ not-false c.args.a.begins e)
+filling_not : (c : Start) → not c.args.a.begins ≡ false → has_filling c.args.p (behind c.args.f) ≡ false
+filling_not c e = not-true (has_filling c.args.p (behind c.args.f)) (ap (λ (x : Aim). x.begins) (sym c.requires.a_value) ∙ not-false c.args.a.begins e)
 
 opens_is : (c : Start) → not c.args.a.begins ≡ false → must_open c.args.p (behind c.args.f) ≡ c.args.a.opens
 unfolding opens
-opens_is c e = ap (λ (x : Bool). not x && must_open c.args.p (behind c.args.f)) (sym (filling-not c e)) ∙ ap (λ (x : Aim). x.opens) (sym c.requires.a_value)
+opens_is c e = ap (λ (x : Bool). not x && must_open c.args.p (behind c.args.f)) (sym (filling_not c e)) ∙ ap (λ (x : Aim). x.opens) (sym c.requires.a_value)
 
 pub returns-then-not-a : goal.returns-then-not-a
 unfolding must_wait slot_count
@@ -46,7 +46,7 @@ returns-then-n-ge8 c =
     let start = c.before.before.before.before in
     let a = c.args in
     let st = behind a.f in
-    let h = filling-not start c.if-not-a.false in
+    let h = filling_not start c.if-not-a.false in
     let e : leb 8 (length (in_flight st)) ≡ true = le-leb 8 (length (in_flight st)) (omega (arith, c.if-n-ge8.true, c.in_flight-n.ensures)) in
     λ j. not (sym h j) && (sym e j || (must_open a.p st && not (is_nil (in_flight st))) || (not (must_open a.p st) && any (other_group a.p st) (in_flight st)))
 
@@ -58,7 +58,7 @@ returns-then-a c =
     let if1 = c.if-not-a in
     let a = c.args in
     let st = behind a.f in
-    let h = filling-not start if1.false in
+    let h = filling_not start if1.false in
     let e : leb 8 (length (in_flight st)) ≡ false = lt-leb 8 (length (in_flight st)) (omega (arith, c.if-n-ge8.false, in_flight_lem.ensures)) in
     let m : must_open a.p st ≡ true = opens_is start if1.false ∙ c.if-a.true in
     let n : eqb in_flight_lem.result 0 ≡ is_nil (in_flight st) = ap (λ (x : ℕ). eqb x 0) in_flight_lem.ensures ∙ sym (is_nil-length (in_flight st)) in
@@ -74,7 +74,7 @@ returns c =
     let if1 = c.if-not-a in
     let a = c.args in
     let st = behind a.f in
-    let h = filling-not start if1.false in
+    let h = filling_not start if1.false in
     let e : leb 8 (length (in_flight st)) ≡ false = lt-leb 8 (length (in_flight st)) (omega (arith, if2.false, in_flight_lem.ensures)) in
     let m : must_open a.p st ≡ false = opens_is start if1.false ∙ c.if-a.false in
     λ j. not (sym h j) && (sym e j || (sym m j && not (is_nil (in_flight st))) || (not (sym m j) && c.any_elsewhere.ensures j))

@@ -43,22 +43,22 @@ Else5 = Lts.Else5 Tie.the-claims Reads.Pre Reads.Post Tie.handed_clauses
 abbrev Else6 : Type 0
 Else6 = Lts.Else6 Tie.the-claims Reads.Pre Reads.Post Tie.handed_clauses
 
-abbrev diskIn : Start → Disk
-diskIn s = mk_disk s.args.image.now s.args.pointers.now
+abbrev disk_in : Start → Disk
+disk_in s = mk_disk s.args.image.now s.args.pointers.now
 
-abbrev memoryIn : Start → Memory
-memoryIn s = mk_memory (state_of s.args.bytes.now) s.args.addresses.now s.args.compact.now s.args.inflight.now
+abbrev memory_in : Start → Memory
+memory_in s = mk_memory (state_of s.args.bytes.now) s.args.addresses.now s.args.compact.now s.args.inflight.now
 
 -- the first refusal from the i-th check on
 abbrev from : Start → ℕ → Opt Answer
-from s i = land_from s.args.p s.args.offline.now (diskIn s) (memoryIn s) s.args.drive s.args.stripe i
+from s i = land_from s.args.p s.args.offline.now (disk_in s) (memory_in s) s.args.drive s.args.stripe i
 
 pub returns-then-not-in_range : goal.returns-then-not-in_range
 returns-then-not-in_range c =
     let start = c.before.before.before.before.before.before.before.before.before.before.before in
     let in_range_holds = c.in_range in record {
       check_value = c.refused.ensures
-          ∙ land_range_fails c.args.p c.args.offline.now (diskIn start) (memoryIn start) c.args.drive c.args.stripe
+          ∙ land_range_fails c.args.p c.args.offline.now (disk_in start) (memory_in start) c.args.drive c.args.stripe
           (sym in_range_holds.ensures ∙ not-true in_range_holds.result c.if-not-in_range.true-raw);
       target_at = λ e. some_none (sym c.refused.ensures ∙ e);
     }
@@ -72,9 +72,9 @@ returns-then-not-lent_ok c =
     let lent_ok = c.lent_ok in
     let in_range_holds = c.in_range in record {
       check_value = c.refused-then-not-lent_ok.ensures
-          ∙ land_lengths_fail c.args.p c.args.offline.now (diskIn start) (memoryIn start) c.args.drive c.args.stripe
-          (sym (lent_ok.ensures (memoryIn start).state) ∙ not-true lent_ok.result c.if-not-lent_ok.true-raw)
-          ∙ land_range_passes c.args.p c.args.offline.now (diskIn start) (memoryIn start) c.args.drive c.args.stripe
+          ∙ land_lengths_fail c.args.p c.args.offline.now (disk_in start) (memory_in start) c.args.drive c.args.stripe
+          (sym (lent_ok.ensures (memory_in start).state) ∙ not-true lent_ok.result c.if-not-lent_ok.true-raw)
+          ∙ land_range_passes c.args.p c.args.offline.now (disk_in start) (memory_in start) c.args.drive c.args.stripe
           (sym in_range_holds.ensures ∙ not-false in_range_holds.result c.if-not-in_range.false-raw);
       target_at = λ e. some_none (sym c.refused-then-not-lent_ok.ensures ∙ e);
     }
@@ -87,17 +87,17 @@ module _ (c : Else2) where
   ranged : in_range begun.args.p ≡ true
   ranged = let in_range_holds = c.before.before.before.in_range in sym in_range_holds.ensures ∙ not-false in_range_holds.result c.before.before.if-not-in_range.false-raw
 
-  lent : lent_ok_of begun.args.p begun.args.offline.now (diskIn begun) (memoryIn begun) ≡ true
-  lent = sym (c.before.lent_ok.ensures (memoryIn begun).state) ∙ not-false c.before.lent_ok.result c.if-not-lent_ok.false-raw
+  lent : lent_ok_of begun.args.p begun.args.offline.now (disk_in begun) (memory_in begun) ≡ true
+  lent = sym (c.before.lent_ok.ensures (memory_in begun).state) ∙ not-false c.before.lent_ok.result c.if-not-lent_ok.false-raw
 
   fitting : from begun 2 ≡ from begun 0
   fitting =
-      land_lengths_pass begun.args.p begun.args.offline.now (diskIn begun) (memoryIn begun) begun.args.drive begun.args.stripe lent
-      ∙ land_range_passes begun.args.p begun.args.offline.now (diskIn begun) (memoryIn begun) begun.args.drive begun.args.stripe ranged
+      land_lengths_pass begun.args.p begun.args.offline.now (disk_in begun) (memory_in begun) begun.args.drive begun.args.stripe lent
+      ∙ land_range_passes begun.args.p begun.args.offline.now (disk_in begun) (memory_in begun) begun.args.drive begun.args.stripe ranged
 
 pub list_rule-rule-requires : goal.list_rule-rule-requires
 list_rule-rule-requires c =
-    let s = begun c.before in record { p_value = ranged c.before; offline_len = (lent_long_lem s.args.p s.args.offline.now (diskIn s) (memoryIn s) (lent c.before)).5 }
+    let s = begun c.before in record { p_value = ranged c.before; offline_len = (lent_long_lem s.args.p s.args.offline.now (disk_in s) (memory_in s) (lent c.before)).5 }
 
 pub returns-then-rule-ne0 : goal.returns-then-rule-ne0
 returns-then-rule-ne0 c =
@@ -105,7 +105,7 @@ returns-then-rule-ne0 c =
     let s = begun at_else in
     let list-rule = c.list_rule-rule in record {
       check_value = c.refused-then-rule-ne0.ensures
-          ∙ land_list_fails s.args.p s.args.offline.now (diskIn s) (memoryIn s) s.args.drive s.args.stripe
+          ∙ land_list_fails s.args.p s.args.offline.now (disk_in s) (memory_in s) s.args.drive s.args.stripe
           list-rule.result list-rule.ensures c.if-rule-ne0.true ∙ fitting at_else;
       target_at = λ e. some_none (sym c.refused-then-rule-ne0.ensures ∙ e);
     }
@@ -117,7 +117,7 @@ module _ (c : Else3) where
   -- nor do 10 and the narrow 1
   enough : from listed 4 ≡ from listed 0
   enough =
-      land_list_passes listed.args.p listed.args.offline.now (diskIn listed) (memoryIn listed) listed.args.drive listed.args.stripe c.before.list_rule-rule.result
+      land_list_passes listed.args.p listed.args.offline.now (disk_in listed) (memory_in listed) listed.args.drive listed.args.stripe c.before.list_rule-rule.result
       c.before.list_rule-rule.ensures c.if-rule-ne0.false
       ∙ fitting c.before.before
 
@@ -126,7 +126,7 @@ returns-then-missing-ne0 c =
     let at_else = c.before.before.before in
     let s = listed at_else in record {
       check_value = c.refused-then-missing-ne0.ensures
-          ∙ land_missing_fails s.args.p s.args.offline.now (diskIn s) (memoryIn s) s.args.drive s.args.stripe
+          ∙ land_missing_fails s.args.p s.args.offline.now (disk_in s) (memory_in s) s.args.drive s.args.stripe
           (λ e. c.if-missing-ne0.true (s.requires.missing_value.0 ∙ e)) ∙ enough at_else;
       target_at = λ e. some_none (sym c.refused-then-missing-ne0.ensures ∙ e);
     }
@@ -136,7 +136,7 @@ module _ (c : Else4) where
   healthy : from (listed c.before) 5 ≡ from (listed c.before) 0
   healthy =
       let s = listed c.before in
-      land_missing_passes s.args.p s.args.offline.now (diskIn s) (memoryIn s) s.args.drive s.args.stripe (sym s.requires.missing_value.0 ∙ c.if-missing-ne0.false) ∙ enough c.before
+      land_missing_passes s.args.p s.args.offline.now (disk_in s) (memory_in s) s.args.drive s.args.stripe (sym s.requires.missing_value.0 ∙ c.if-missing-ne0.false) ∙ enough c.before
 
 pub waiting-requires : goal.waiting-requires
 waiting-requires c =
@@ -148,8 +148,8 @@ module _ (c : After-waiting) where
   asked = listed c.before.before.before
 
   -- what the row says is what the definition says
-  waits-is : c.waiting.result ≡ waiting asked.args.p (memoryIn asked).state asked.args.drive asked.args.stripe
-  waits-is =
+  waits_is : c.waiting.result ≡ waiting asked.args.p (memory_in asked).state asked.args.drive asked.args.stripe
+  waits_is =
       let a = asked.args in
       c.waiting.ensures ∙ waits_row a.p (state_of a.bytes.now) a.drive a.stripe a.seen asked.requires.looks
 
@@ -159,20 +159,20 @@ returns-then-not-waiting c =
     let at_else = at_waiting.before.before in
     let s = asked at_waiting in record {
       check_value = c.refused-then-not-waiting.ensures
-          ∙ waiting_fails s.args.p s.args.offline.now (diskIn s) (memoryIn s) s.args.drive s.args.stripe
-          (sym (waits-is at_waiting) ∙ not-true c.waiting.result c.if-not-waiting.true-raw) ∙ healthy at_else;
+          ∙ waiting_fails s.args.p s.args.offline.now (disk_in s) (memory_in s) s.args.drive s.args.stripe
+          (sym (waits_is at_waiting) ∙ not-true c.waiting.result c.if-not-waiting.true-raw) ∙ healthy at_else;
       target_at = λ e. some_none (sym c.refused-then-not-waiting.ensures ∙ e);
     }
 
 module _ (c : Else5) where
   -- nor does 5
-  waits : waiting (asked c.before).args.p (memoryIn (asked c.before)).state (asked c.before).args.drive (asked c.before).args.stripe ≡ true
-  waits = sym (waits-is c.before) ∙ not-false c.before.waiting.result c.if-not-waiting.false-raw
+  waits : waiting (asked c.before).args.p (memory_in (asked c.before)).state (asked c.before).args.drive (asked c.before).args.stripe ≡ true
+  waits = sym (waits_is c.before) ∙ not-false c.before.waiting.result c.if-not-waiting.false-raw
 
   waited : from (asked c.before) 6 ≡ from (asked c.before) 0
   waited =
       let s = asked c.before in
-      waiting_passes s.args.p s.args.offline.now (diskIn s) (memoryIn s) s.args.drive s.args.stripe waits ∙ healthy c.before.before.before
+      waiting_passes s.args.p s.args.offline.now (disk_in s) (memory_in s) s.args.drive s.args.stripe waits ∙ healthy c.before.before.before
 
 pub state_ok-requires : goal.state_ok-requires
 state_ok-requires c =
@@ -185,7 +185,7 @@ returns-then-not-state_ok c =
     let s = asked at_waiting in
     let state_ok_holds = c.state_ok in record {
       check_value = c.refused-then-not-state_ok.ensures
-          ∙ land_state_fails s.args.p s.args.offline.now (diskIn s) (memoryIn s) s.args.drive s.args.stripe
+          ∙ land_state_fails s.args.p s.args.offline.now (disk_in s) (memory_in s) s.args.drive s.args.stripe
           (sym state_ok_holds.ensures ∙ not-true state_ok_holds.result c.if-not-state_ok.true-raw) ∙ waited at_else;
       target_at = λ e. some_none (sym c.refused-then-not-state_ok.ensures ∙ e);
     }
@@ -195,12 +195,12 @@ module _ (c : Else6) where
   done = asked c.before.before.before
 
   -- nor does 9, as far as the state's numbers go
-  fine : state_ok done.args.p (memoryIn done).state ≡ true
+  fine : state_ok done.args.p (memory_in done).state ≡ true
   fine = sym c.before.state_ok.ensures ∙ not-false c.before.state_ok.result c.if-not-state_ok.false-raw
 
-  looked : LookedAt done.args.p (memoryIn done) done.args.addresses.now done.args.opened done.args.drive done.args.stripe done.args.seen
+  looked : LookedAt done.args.p (memory_in done) done.args.addresses.now done.args.opened done.args.drive done.args.stripe done.args.seen
   looked =
-      let st = (memoryIn done).state in
+      let st = (memory_in done).state in
       let w = waits_low done.args.p st done.args.drive done.args.stripe (waits c.before.before) in
       record {
         addresses = refl;
@@ -215,15 +215,15 @@ zone_checks-requires c =
     let at_else' = c.before.before.before in
     let at_else = at_else'.before.before.before.before.before.before in
     let s = begun at_else in
-    let l = lent_long_lem s.args.p s.args.offline.now (diskIn s) (memoryIn s) (lent at_else) in
-    let w = waits_low s.args.p (memoryIn s).state s.args.drive s.args.stripe (waits at_else') in
-    record { p_value = ranged at_else; whole = (record { image_long = l.0; pointers_long = l.1 }, l.5, l.2); drive_lt_n = (w.0, (memoryIn s, looked c.before)) }
+    let l = lent_long_lem s.args.p s.args.offline.now (disk_in s) (memory_in s) (lent at_else) in
+    let w = waits_low s.args.p (memory_in s).state s.args.drive s.args.stripe (waits at_else') in
+    record { p_value = ranged at_else; whole = (record { image_long = l.0; pointers_long = l.1 }, l.5, l.2); drive_lt_n = (w.0, (memory_in s, looked c.before)) }
 
 pub returns : goal.returns
 returns c =
     let at_else = c.before.before.before.before in
     let s = done c.before.before in record {
-      check_value = c.zone_checks.ensures.check_value (memoryIn s) (looked c.before.before)
-          ∙ land_state_passes s.args.p s.args.offline.now (diskIn s) (memoryIn s) s.args.drive s.args.stripe (fine c.before.before) ∙ waited at_else;
-      target_at = c.zone_checks.ensures.target_at (memoryIn s) (looked c.before.before);
+      check_value = c.zone_checks.ensures.check_value (memory_in s) (looked c.before.before)
+          ∙ land_state_passes s.args.p s.args.offline.now (disk_in s) (memory_in s) s.args.drive s.args.stripe (fine c.before.before) ∙ waited at_else;
+      target_at = c.zone_checks.ensures.target_at (memory_in s) (looked c.before.before);
     }

@@ -55,8 +55,8 @@ memory s x = mk_memory x s.args.addresses.now s.args.compact.now s.args.inflight
 abbrev refuses : Start → State → Opt Answer
 refuses s x = land_refusal s.args.p s.args.offline.now (disk s) (memory s x) s.args.drive s.args.stripe
 
-checked-is : (c : After-checks) → checked c.checks-sight.result.check ≡ refuses (start c) (start c).args.state
-checked-is c = subst (λ (x : State). checked c.checks-sight.result.check ≡ refuses (start c) x) (sym (start c).requires.0) c.checks-sight.ensures.check_value
+checked_is : (c : After-checks) → checked c.checks-sight.result.check ≡ refuses (start c) (start c).args.state
+checked_is c = subst (λ (x : State). checked c.checks-sight.result.check ≡ refuses (start c) x) (sym (start c).requires.0) c.checks-sight.ensures.check_value
 
 pub returns-in-Fail : goal.returns-in-Fail
 returns-in-Fail c =
@@ -65,7 +65,7 @@ returns-in-Fail c =
     let a = c.args in
     let e = sym (ap (λ (x : Change). x.answer) c.kept.ensures) in
     land_refused a.p a.offline.now (disk start') (memory start' a.state) a.drive a.stripe a.count c.kept.result
-    (sym (checked-is at_checks) ∙ ap checked c.in-Fail.is ∙ ap some e)
+    (sym (checked_is at_checks) ∙ ap checked c.in-Fail.is ∙ ap some e)
 
 -- the arrays have their lengths
 sized : (c : Start) → RowsSized c.args.state
@@ -89,7 +89,7 @@ module _ (c : After-enum_told) where
         looks = look.ensures;
         target = subst (λ (x : State). TargetAt begun.args.p (seen begun.args.p begun.args.offline.now (disk begun)) x begun.args.drive look.result.done checks.result.target)
             (sym begun.requires.0) (checks.ensures.target_at e);
-        none! = sym (checked-is c.before) ∙ e;
+        none! = sym (checked_is c.before) ∙ e;
       }
 
 pub plan-requires : goal.plan-requires

@@ -14,16 +14,16 @@ use Rattle.call_land_chunk.specs.Alone.{alone, alone_entry}
 use Rattle.call_land_chunk.proofs.parity_entry.Goals as goal
 use Rattle.call_land_chunk.proofs.parity_entry.Goals.{Start}
 
-long-addresses : (c : Start) → length c.args.row.addresses ≡ 8
-long-addresses c = search rules
+long_addresses : (c : Start) → length c.args.row.addresses ≡ 8
+long_addresses c = search rules
 
-long-stamps : (c : Start) → length c.args.row.stamps ≡ 8
-long-stamps c = search rules
+long_stamps : (c : Start) → length c.args.row.stamps ≡ 8
+long_stamps c = search rules
 
 pub encode_record-requires : goal.encode_record-requires
 encode_record-requires c =
     let n : c.filled_in-n.result ≤ 8 = omega (arith, c.filled_in-n.ensures, c.requires) in
-    (omega (arith, n, long-addresses (goal.at.encode_record-requires c).Start), omega (arith, n, long-stamps (goal.at.encode_record-requires c).Start))
+    (omega (arith, n, long_addresses (goal.at.encode_record-requires c).Start), omega (arith, n, long_stamps (goal.at.encode_record-requires c).Start))
 
 pub returns : goal.returns
 unfolding entries_in stripe_in alone

@@ -35,11 +35,11 @@ seg_for-segment-requires c =
     record { p_value = q.p_value; whole = (q.whole.0, q.whole.1); serial_bound = remains_low a.p v a.gone q.whole.2 a.serial.0 q.held_one.it_remains }
 
 -- the segment of the place, and its zones
-segment-is :
+segment_is :
     (c : After-seg_for-segment)
     → let a = c.args in
     place_segment a.p (view_of a.p a.offline.now a.image.now a.pointers.now) a.gone a.q.0 ≡ c.seg_for-segment.result
-segment-is c =
+segment_is c =
     let a = c.args in
     let v = view_of a.p a.offline.now a.image.now a.pointers.now in
     held_segment a.p v a.gone a.q.0 a.serial.0 c.requires.held_one ∙ sym c.seg_for-segment.ensures
@@ -69,7 +69,7 @@ returns-then-any_hidden c =
     let zone = c.place_zone-zone in
     let block = c.place_block-s in
     seeks_hidden a.p a.offline.now a.image.now a.pointers.now a.gone a.compact.now a.q _ c.seg_for-segment.result (block.result - 1)
-    refl (segment-is (goal.at.returns-then-any_hidden c).After-seg_for-segment) (ap (λ (x : ℕ). x - 1) block.ensures.0) offsets.new.at (offsets.ensures a.offline.now a.image.now w.image_long)
+    refl (segment_is (goal.at.returns-then-any_hidden c).After-seg_for-segment) (ap (λ (x : ℕ). x - 1) block.ensures.0) offsets.new.at (offsets.ensures a.offline.now a.image.now w.image_long)
     zone.result zone.ensures.0 (sym c.any_hidden.ensures ∙ c.if-any_hidden.true) a.bytes.now
 
 -- the offsets are data offsets where none is hidden
@@ -120,6 +120,6 @@ returns c =
     let offsets = c.shown_offsets in
     let block = c.place_block-s in
     seeks_shown a.p a.offline.now a.image.now a.pointers.now a.gone a.compact.now a.q drive.result c.seg_for-segment.result (block.result - 1)
-    drive.ensures.0 (segment-is (goal.at.returns c).After-seg_for-segment) (ap (λ (x : ℕ). x - 1) block.ensures.0) offsets.new.at (offsets.ensures a.offline.now a.image.now w.image_long)
+    drive.ensures.0 (segment_is (goal.at.returns c).After-seg_for-segment) (ap (λ (x : ℕ). x - 1) block.ensures.0) offsets.new.at (offsets.ensures a.offline.now a.image.now w.image_long)
     w.pointers_long (sym c.any_hidden.ensures ∙ c.if-any_hidden.false) bytes.new.bytes (bytes.ensures a.image.now w.image_long)
     c.decode_record-r.result (c.decode_record-r.ensures a.offline.now)

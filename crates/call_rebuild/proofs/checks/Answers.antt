@@ -30,16 +30,16 @@ Else2 = Lts.Else2 Tie.the-claims Reads.Pre Reads.Post Tie.handed_clauses
 abbrev After-pointer_fault : Type 0
 After-pointer_fault = Lts.After-pointer_fault Tie.the-claims Reads.Pre Reads.Post Tie.handed_clauses
 
-abbrev diskIn : Start → Disk
-diskIn s = mk_disk s.args.image.now s.args.pointers.now
+abbrev disk_in : Start → Disk
+disk_in s = mk_disk s.args.image.now s.args.pointers.now
 
-abbrev memoryIn : Start → Memory
-memoryIn s = mk_memory s.args.state s.args.addresses.now s.args.compact.now s.args.inflight.now
+abbrev memory_in : Start → Memory
+memory_in s = mk_memory s.args.state s.args.addresses.now s.args.compact.now s.args.inflight.now
 
 pub returns-then-bad_numbers : goal.returns-then-bad_numbers
 returns-then-bad_numbers c =
     let start = c.before.before.before.before.before.before.before.before.before in
-    rebuild_numbers_fail c.args.p c.args.offline.now (diskIn start) (memoryIn start) c.args.drive (sym c.bad_numbers.ensures ∙ c.if-bad_numbers.true)
+    rebuild_numbers_fail c.args.p c.args.offline.now (disk_in start) (memory_in start) c.args.drive (sym c.bad_numbers.ensures ∙ c.if-bad_numbers.true)
 
 pub lent_ok-requires : goal.lent_ok-requires
 lent_ok-requires c =
@@ -49,7 +49,7 @@ lent_ok-requires c =
 pub returns-then-not-lent_ok : goal.returns-then-not-lent_ok
 returns-then-not-lent_ok c =
     let start = c.before.before.before.before.before.before.before.before.before.before.before in
-    rebuild_lengths_fail c.args.p c.args.offline.now (diskIn start) (memoryIn start) c.args.drive
+    rebuild_lengths_fail c.args.p c.args.offline.now (disk_in start) (memory_in start) c.args.drive
     (sym c.bad_numbers.ensures ∙ c.if-bad_numbers.false)
     (sym (c.lent_ok.ensures c.args.state) ∙ not-true c.lent_ok.result c.if-not-lent_ok.true-raw)
 
@@ -61,7 +61,7 @@ module _ (c : Else2) where
   numbered : bad_numbers begun.args.p begun.args.state.missing begun.args.drive ≡ false
   numbered = sym c.before.before.before.bad_numbers.ensures ∙ c.before.before.if-bad_numbers.false
 
-  lent : lent_ok_of begun.args.p begun.args.offline.now (diskIn begun) (memoryIn begun) ≡ true
+  lent : lent_ok_of begun.args.p begun.args.offline.now (disk_in begun) (memory_in begun) ≡ true
   lent = sym (c.before.lent_ok.ensures begun.args.state) ∙ not-false c.before.lent_ok.result c.if-not-lent_ok.false-raw
 
 pub list_rule-rule-requires : goal.list_rule-rule-requires
@@ -69,35 +69,35 @@ list_rule-rule-requires c =
     let s = begun c.before in record {
       p_value = (numbers_good s.args.p s.args.state.missing s.args.drive (numbered c.before)).0;
       offline_len =
-          (lengths_of s.args.p s.args.offline.now (diskIn s) (memoryIn s) (lent c.before)).offline_ok;
+          (lengths_of s.args.p s.args.offline.now (disk_in s) (memory_in s) (lent c.before)).offline_ok;
     }
 
 pub returns-then-rule-ne0 : goal.returns-then-rule-ne0
 returns-then-rule-ne0 c =
     let at_else = c.before.before.before in
     let s = begun at_else in
-    rebuild_list_fails s.args.p s.args.offline.now (diskIn s) (memoryIn s) s.args.drive (numbered at_else) (lent at_else)
+    rebuild_list_fails s.args.p s.args.offline.now (disk_in s) (memory_in s) s.args.drive (numbered at_else) (lent at_else)
     c.list_rule-rule.result c.list_rule-rule.ensures c.if-rule-ne0.true
 
 pub pointer_fault-z-requires : goal.pointer_fault-z-requires
 pointer_fault-z-requires c =
     let at_else = c.before.before.before.before in
     let s = begun at_else in
-    let w = lengths_of s.args.p s.args.offline.now (diskIn s) (memoryIn s) (lent at_else) in
+    let w = lengths_of s.args.p s.args.offline.now (disk_in s) (memory_in s) (lent at_else) in
     record { p_value = (numbers_good s.args.p s.args.state.missing s.args.drive (numbered at_else)).0; pointers_len = (w.pointers_ok, w.offline_ok) }
 
 -- the zone that is found is the first of those above
 found :
     (c : After-pointer_fault)
     → let s = begun c.before.before.before.before in
-    c.pointer_fault-z.result ≡ first_or s.args.p.Z (pointer_faults s.args.p (seen s.args.p s.args.offline.now (diskIn s)) (named s.args.drive))
+    c.pointer_fault-z.result ≡ first_or s.args.p.Z (pointer_faults s.args.p (seen s.args.p s.args.offline.now (disk_in s)) (named s.args.drive))
 found c =
     let at_else = c.before.before.before.before in
     let s = begun at_else in
     let p = s.args.p in
-    let w = lengths_of p s.args.offline.now (diskIn s) (memoryIn s) (lent at_else) in
+    let w = lengths_of p s.args.offline.now (disk_in s) (memory_in s) (lent at_else) in
     c.pointer_fault-z.ensures.by_index s.args.image.now w.image_ok
-    ∙ ap (λ (x : ℕ). first_or p.Z (pointer_faults p (seen p s.args.offline.now (diskIn s)) x)) (c.before.only_drive.ensures ∙ only-named s.args.drive)
+    ∙ ap (λ (x : ℕ). first_or p.Z (pointer_faults p (seen p s.args.offline.now (disk_in s)) x)) (c.before.only_drive.ensures ∙ only-named s.args.drive)
 
 pub returns-then-z-p : goal.returns-then-z-p
 returns-then-z-p c =
@@ -106,7 +106,7 @@ returns-then-z-p c =
     let s = begun at_else in
     let list-rule = c.list_rule-rule in
     let if3 = c.if-rule-ne0 in
-    rebuild_pointers_fail s.args.p s.args.offline.now (diskIn s) (memoryIn s) s.args.drive (numbered at_else) (lent at_else) list-rule.result list-rule.ensures if3.false
+    rebuild_pointers_fail s.args.p s.args.offline.now (disk_in s) (memory_in s) s.args.drive (numbered at_else) (lent at_else) list-rule.result list-rule.ensures if3.false
     c.pointer_fault-z.result (found at_pointer_fault) c.if-z-p.true
 
 pub returns : goal.returns
@@ -118,5 +118,5 @@ returns c =
     let if3 = c.if-rule-ne0 in
     let pointer-fault = c.pointer_fault-z in
     let z : pointer-fault.result ≡ s.args.p.Z = omega (arith, c.if-z-p.false, pointer-fault.ensures.upper_bound) in
-    rebuild_pointers_pass s.args.p s.args.offline.now (diskIn s) (memoryIn s) s.args.drive (numbered at_else) (lent at_else) list-rule.result list-rule.ensures if3.false
+    rebuild_pointers_pass s.args.p s.args.offline.now (disk_in s) (memory_in s) s.args.drive (numbered at_else) (lent at_else) list-rule.result list-rule.ensures if3.false
     (sym (found at_pointer_fault) ∙ z)

@@ -31,18 +31,18 @@ Start = Lts.Start Tie.the-claims Reads.Pre Reads.Post Tie.handed_clauses
 abbrev After-examine : Type 0
 After-examine = Lts.After-examine Tie.the-claims Reads.Pre Reads.Post Tie.handed_clauses
 
-abbrev diskIn : Start → Disk
-diskIn s = mk_disk s.args.image.now s.args.pointers.now
+abbrev disk_in : Start → Disk
+disk_in s = mk_disk s.args.image.now s.args.pointers.now
 
-abbrev memoryIn : Start → Memory
-memoryIn s = mk_memory s.args.state s.args.addresses.now s.args.compact.now s.args.inflight.now
+abbrev memory_in : Start → Memory
+memory_in s = mk_memory s.args.state s.args.addresses.now s.args.compact.now s.args.inflight.now
 
-ready : (s : Start) → RebuildReady s.args.p s.args.offline.now (diskIn s) (memoryIn s) s.args.drive
-ready s = rebuild_ready s.args.p s.args.offline.now (diskIn s) (memoryIn s) s.args.drive s.requires
+ready : (s : Start) → RebuildReady s.args.p s.args.offline.now (disk_in s) (memory_in s) s.args.drive
+ready s = rebuild_ready s.args.p s.args.offline.now (disk_in s) (memory_in s) s.args.drive s.requires
 
 -- some drive is present
-some-here : (s : Start) (gone : ℕ) → gone ≡ named s.args.drive → Here s.args.p gone
-some-here s gone e = subst (Here s.args.p) (sym e) (named_here s.args.p (ranged s.args.p (ready s).in_range_holds) s.args.drive (ready s).drive_low)
+some_here : (s : Start) (gone : ℕ) → gone ≡ named s.args.drive → Here s.args.p gone
+some_here s gone e = subst (Here s.args.p) (sym e) (named_here s.args.p (ranged s.args.p (ready s).in_range_holds) s.args.drive (ready s).drive_low)
 
 pub gather-requires : goal.gather-requires
 gather-requires c =
@@ -52,9 +52,9 @@ gather-requires c =
     let z = (ranged c.args.p rd.in_range_holds).zones_high in record {
       p_value = rd.in_range_holds;
       whole = (
-        whole_of c.args.p c.args.offline.now (diskIn start) (memoryIn start) rd.lent,
-        (lengths_of c.args.p c.args.offline.now (diskIn start) (memoryIn start) rd.lent).offline_ok,
-        some-here start only-drive.result (only-drive.ensures ∙ only-named c.args.drive),
+        whole_of c.args.p c.args.offline.now (disk_in start) (memory_in start) rd.lent,
+        (lengths_of c.args.p c.args.offline.now (disk_in start) (memory_in start) rd.lent).offline_ok,
+        some_here start only-drive.result (only-drive.ensures ∙ only-named c.args.drive),
       );
       z_in_bounds = (omega (arith, z), z, z, z);
     }
@@ -67,9 +67,9 @@ examine-e-requires c =
     let rd = ready start in record {
       p_value = rd.in_range_holds;
       whole = (
-        whole_of c.args.p c.args.offline.now (diskIn start) (memoryIn start) rd.lent,
-        (lengths_of c.args.p c.args.offline.now (diskIn start) (memoryIn start) rd.lent).offline_ok,
-        some-here start only-drive.result (only-drive.ensures ∙ only-named c.args.drive),
+        whole_of c.args.p c.args.offline.now (disk_in start) (memory_in start) rd.lent,
+        (lengths_of c.args.p c.args.offline.now (disk_in start) (memory_in start) rd.lent).offline_ok,
+        some_here start only-drive.result (only-drive.ensures ∙ only-named c.args.drive),
       );
       keeps = (g.keeps, g.serials, g.flags_rows);
     }
@@ -78,7 +78,7 @@ examine-e-requires c =
 said : (c : After-examine)
     → let v = seen c.before.before.before.before.before.before.before.before.before.before.before.before.before.before.before.before.before.before.before.before.args.p
     c.before.before.before.before.before.before.before.before.before.before.before.before.before.before.before.before.before.before.before.before.args.offline.now
-    (diskIn c.before.before.before.before.before.before.before.before.before.before.before.before.before.before.before.before.before.before.before.before) in
+    (disk_in c.before.before.before.before.before.before.before.before.before.before.before.before.before.before.before.before.before.before.before.before) in
     Examined c.before.before.before.before.before.before.before.before.before.before.before.before.before.before.before.before.before.before.before.before.args.p v
     (named c.before.before.before.before.before.before.before.before.before.before.before.before.before.before.before.before.before.before.before.before.args.drive)
     (segments c.before.before.before.before.before.before.before.before.before.before.before.before.before.before.before.before.before.before.before.before.args.p v
@@ -88,7 +88,7 @@ said c =
     let start = at_only_drive_gone.before.before.before.before.before.before.before in
     let only-drive = at_only_drive_gone.only_drive-gone in
     let p = start.args.p in
-    let v = seen p start.args.offline.now (diskIn start) in
+    let v = seen p start.args.offline.now (disk_in start) in
     subst (λ (g : ℕ). Examined p v g (segments p v g) c.examine-e.result) (only-drive.ensures ∙ only-named start.args.drive) c.examine-e.ensures
 
 pub returns-then-e-p : goal.returns-then-e-p
@@ -99,8 +99,8 @@ returns-then-e-p c =
     let d = c.args.drive in
     let off = c.args.offline.now in
     let x = c.examine-e in
-    ends_rebuild_refused p off (diskIn start) (memoryIn start) d c.args.count (BadZone x.result.zone)
-    (rebuild_front_passed p off (diskIn start) (memoryIn start) d c.requires ∙ names_zone_lem p (seen p off (diskIn start)) (named d) x.result [] (said at_examine) c.if-e-p.true)
+    ends_rebuild_refused p off (disk_in start) (memory_in start) d c.args.count (BadZone x.result.zone)
+    (rebuild_front_passed p off (disk_in start) (memory_in start) d c.requires ∙ names_zone_lem p (seen p off (disk_in start)) (named d) x.result [] (said at_examine) c.if-e-p.true)
 
 pub restore-requires : goal.restore-requires
 restore-requires c =
@@ -112,7 +112,7 @@ restore-requires c =
     let only-drive = c.only_drive-gone in
     let p = c.args.p in
     let d = c.args.drive in
-    let v = seen p c.args.offline.now (diskIn start) in
+    let v = seen p c.args.offline.now (disk_in start) in
     let ex = said at_examine in
     let z : x.result.zone ≡ p.Z = omega (arith, if1.false, zone_le p v (named d) x.result ex) in
     let rows = l.new.rows in

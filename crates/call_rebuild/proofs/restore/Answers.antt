@@ -13,11 +13,11 @@ use Rattle.law_drives.specs.Masks.{only-named}
 use Rattle.call_rebuild.proofs.restore.Goals as goal
 use Rattle.call_rebuild.proofs.restore.Goals.{Start}
 
-abbrev diskIn : Start → Disk
-diskIn s = mk_disk s.args.image.now s.args.pointers.now
+abbrev disk_in : Start → Disk
+disk_in s = mk_disk s.args.image.now s.args.pointers.now
 
-abbrev memoryIn : Start → Memory
-memoryIn s = mk_memory s.args.state s.args.addresses.now s.args.compact.now s.args.inflight.now
+abbrev memory_in : Start → Memory
+memory_in s = mk_memory s.args.state s.args.addresses.now s.args.compact.now s.args.inflight.now
 
 pub rebuild_stores-made-requires : goal.rebuild_stores-made-requires
 rebuild_stores-made-requires c =
@@ -27,8 +27,8 @@ rebuild_stores-made-requires c =
     let p = a.p in
     let d = a.drive in
     let off = a.offline.now in
-    let k = diskIn (goal.at.rebuild_stores-made-requires c).Start in
-    let m = memoryIn (goal.at.rebuild_stores-made-requires c).Start in
+    let k = disk_in (goal.at.rebuild_stores-made-requires c).Start in
+    let m = memory_in (goal.at.rebuild_stores-made-requires c).Start in
     let rd = rebuild_ready p off k m d q.drive_value in record {
       p_value = rd.in_range_holds;
       whole = (whole_of p off k m rd.lent, (lengths_of p off k m rd.lent).offline_ok);
@@ -52,8 +52,8 @@ returns-then-made c =
     let p = a.p in
     let d = a.drive in
     let off = a.offline.now in
-    let k = diskIn (goal.at.returns-then-made c).Start in
-    let m = memoryIn (goal.at.returns-then-made c).Start in
+    let k = disk_in (goal.at.returns-then-made c).Start in
+    let m = memory_in (goal.at.returns-then-made c).Start in
     let rd = rebuild_ready p off k m d q.drive_value in
     ends_rebuild_cut p off k m d a.count (rebuild_faultless p off k m d q.drive_value q.drive_value_2) z.result (mk_disk z.new.image z.new.pointers)
     (drive_stores p off d (seen p off k) a.kept.now a.serials.now a.rows.now)
@@ -68,8 +68,8 @@ returns c =
     let p = a.p in
     let d = a.drive in
     let off = a.offline.now in
-    let k = diskIn (goal.at.returns c).Start in
-    let m = memoryIn (goal.at.returns c).Start in
+    let k = disk_in (goal.at.returns c).Start in
+    let m = memory_in (goal.at.returns c).Start in
     let rd = rebuild_ready p off k m d q.drive_value in
     ends_rebuild_done p off k m d a.count (rebuild_faultless p off k m d q.drive_value q.drive_value_2) z.result (mk_disk z.new.image z.new.pointers)
     (drive_stores p off d (seen p off k) a.kept.now a.serials.now a.rows.now)

@@ -46,13 +46,13 @@ abbrev taken : (c : Start) → Opt Victim
 taken c = victim c.args.p (view c) c.args.addresses.now
 
 -- there is a segment, with live blocks
-some-taken : (c : Start) → is_none (taken c) ≡ false
-some-taken c =
+some_taken : (c : Start) → is_none (taken c) ≡ false
+some_taken c =
     let l = c.requires.looked in
     l.0.nobody ∙ lt-leb c.args.p.Z c.args.seen.zone l.1
 
-some-live : (c : Start) → is_nil (victim_live (taken c)) ≡ false
-some-live c =
+some_live : (c : Start) → is_nil (victim_live (taken c)) ≡ false
+some_live c =
     let l = c.requires.looked in
     length_some (victim_live (taken c)) (subst (λ (x : ℕ). 0 < x) (sym l.0.live) l.2)
 
@@ -60,17 +60,17 @@ some-live c =
 abbrev later : (c : Start) → Opt Answer
 later c = first_refusal (later_checks c.args.p (view c) (state c) c.args.addresses.now (taken c))
 
-from-rules : (c : Start) → (c.args.seen.first.0 ≡ never_place → ⊥)
+from_rules : (c : Start) → (c.args.seen.first.0 ≡ never_place → ⊥)
     → later c ≡ or_next (first_refusal (copy_rules c.args.p (view c) (state c))) (first_refusal (zones (bad_zones c.args.p (view c) (state c) c.args.addresses.now (taken c)) ∷ []))
-from-rules c n =
+from_rules c n =
     let a = c.args in
-    idle_passes a.p (view c) (state c) a.addresses.now (taken c) (some-taken c) (some-live c) (c.requires.looked.0.none_idle ∙ ne_eqb a.seen.first.0 never_place n)
+    idle_passes a.p (view c) (state c) a.addresses.now (taken c) (some_taken c) (some_live c) (c.requires.looked.0.none_idle ∙ ne_eqb a.seen.first.0 never_place n)
 
 pub returns-then-first-none : goal.returns-then-first-none
 returns-then-first-none c =
     let start = c.before.before.before.before.before.before.before.before.before.before in
     let a = c.args in
-    idle_fails a.p (view start) (state start) a.addresses.now (taken start) (some-taken start) (some-live start)
+    idle_fails a.p (view start) (state start) a.addresses.now (taken start) (some_taken start) (some_live start)
     (c.requires.looked.0.none_idle ∙ eq-eqb a.seen.first.0 never_place c.if-first-none.true)
 
 pub copy_rules-c-requires : goal.copy_rules-c-requires
@@ -80,10 +80,10 @@ copy_rules-c-requires c =
     let q = c.requires.f_value in record { p_value = c.requires.p_value; pointers_len = (c.requires.whole.0.pointers_long, c.requires.whole.1, q.1 ∙ sym (front_aim a.p (state start) a.f q.0)) }
 
 -- the rules of a copy, as they come out
-rules-are : (c : After-copy_rules) → checked c.copy_rules-c.result ≡ first_refusal
+rules_are : (c : After-copy_rules) → checked c.copy_rules-c.result ≡ first_refusal
     (copy_rules c.before.before.before.before.before.before.before.before.before.before.args.p
     (view c.before.before.before.before.before.before.before.before.before.before) (state c.before.before.before.before.before.before.before.before.before.before))
-rules-are c =
+rules_are c =
     let start = c.before.before.before.before.before.before.before.before.before.before in
     c.copy_rules-c.ensures (state start) start.args.image.now start.requires.f_value.0 start.requires.whole.0.image_long
 
@@ -91,8 +91,8 @@ pub returns-in-Fail : goal.returns-in-Fail
 returns-in-Fail c =
     let start = c.before.before.before.before.before.before.before.before.before.before.before.before in
     let a = c.args in
-    let e : first_refusal (copy_rules a.p (view start) (state start)) ≡ some c.in-Fail.answer = sym (rules-are c.before.before) ∙ ap checked c.in-Fail.is in
-    from-rules start c.if-first-none.false ∙ ap (λ (x : Opt Answer). or_next x (first_refusal (zones (bad_zones a.p (view start) (state start) a.addresses.now (taken start)) ∷ []))) e
+    let e : first_refusal (copy_rules a.p (view start) (state start)) ≡ some c.in-Fail.answer = sym (rules_are c.before.before) ∙ ap checked c.in-Fail.is in
+    from_rules start c.if-first-none.false ∙ ap (λ (x : Opt Answer). or_next x (first_refusal (zones (bad_zones a.p (view start) (state start) a.addresses.now (taken start)) ∷ []))) e
 
 pub has_fault-requires : goal.has_fault-requires
 has_fault-requires c = record { p_value = c.requires.p_value; bytes_len = c.requires.f_value.2 }
@@ -105,8 +105,8 @@ from_zones c =
     let start = at_if_first_none.before.before.before.before.before.before.before.before.before in
     let a = start.args in
     let k = start.requires.looked in
-    let e : first_refusal (copy_rules a.p (view start) (state start)) ≡ none = sym (rules-are c.before.before) ∙ ap checked c.before.in_default.is in
-    from-rules start at_if_first_none.if-first-none.false
+    let e : first_refusal (copy_rules a.p (view start) (state start)) ≡ none = sym (rules_are c.before.before) ∙ ap checked c.before.in_default.is in
+    from_rules start at_if_first_none.if-first-none.false
     ∙ ap (λ (x : Opt Answer). or_next x (first_refusal (zones (bad_zones a.p (view start) (state start) a.addresses.now (taken start)) ∷ []))) e
     ∙ zones_odd a.p (ranged a.p start.requires.p_value) (view start) (state start) a.addresses.now (taken start) c.has_fault.result a.seen.odd
     (λ zs. c.has_fault.ensures (view start) a.addresses.now zs (k.0.outside k.1)) k.0.odd
@@ -132,7 +132,7 @@ returns c =
     let n = c.if-first-none.false in
     let g = k.0.found n in (
       from_zones at_has_fault ∙ (let f = c.if-has_fault.false in let z = eq-eqb o 1024 c.if-seen-ne1024.false in λ j. cond (f j) (some (BadZone 0)) (cond (z j) none (some (BadZone o)))),
-      some-live start,
+      some_live start,
       first_found (idle a.p (view start) (state start) (taken start)) never_place a.seen.first.0 k.0.first n,
       g.1,
       g.3 c.if-seen-ne1024.false,

@@ -36,8 +36,8 @@ module _ (c : After-must_wait-wait) (st : State) where
         ap (λ (x : Aim). x.opens && scarce a.p (view_of a.p a.offline.now im a.pointers.now) 1) (sym (c.requires.pointers_len.2 ∙ front_aim a.p st a.f e))
         ∙ sym (c.copy_full-full.ensures im h)
 
-    wait-is : must_wait c.args.p st ≡ c.must_wait-wait.result
-    wait-is = sym (front_wait c.args.p st c.args.f e) ∙ sym c.must_wait-wait.ensures
+    wait_is : must_wait c.args.p st ≡ c.must_wait-wait.result
+    wait_is = sym (front_wait c.args.p st c.args.f e) ∙ sym c.must_wait-wait.ensures
 
 pub returns-then-no_serial : goal.returns-then-no_serial
 returns-then-no_serial c =
@@ -62,10 +62,10 @@ pub returns-then-wait : goal.returns-then-wait
 returns-then-wait c = λ st im e h.
     let w = (goal.at.returns-then-wait c).After-must_wait-wait in
     let a = c.args in
-    rules_wait a.p (view_of a.p a.offline.now im a.pointers.now) st (counted w st e) (full_is w st e im h ∙ c.if-full.false) (wait-is w st e ∙ c.if-wait.true)
+    rules_wait a.p (view_of a.p a.offline.now im a.pointers.now) st (counted w st e) (full_is w st e im h ∙ c.if-full.false) (wait_is w st e ∙ c.if-wait.true)
 
 pub returns : goal.returns
 returns c = λ st im e h.
     let w = (goal.at.returns c).After-must_wait-wait in
     let a = c.args in
-    rules_pass a.p (view_of a.p a.offline.now im a.pointers.now) st (counted w st e) (full_is w st e im h ∙ c.if-full.false) (wait-is w st e ∙ c.if-wait.false)
+    rules_pass a.p (view_of a.p a.offline.now im a.pointers.now) st (counted w st e) (full_is w st e im h ∙ c.if-full.false) (wait_is w st e ∙ c.if-wait.false)

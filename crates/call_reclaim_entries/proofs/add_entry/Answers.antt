@@ -35,8 +35,8 @@ zone_number-t-requires c =
     let h = c.requires.le_cap in (h.0, h.1, omega (arith, h.2, c.if-all-q.false), h.3)
 
 -- the zone is one of those numbered
-in-zones : (c : After-zone_number) → c.zone_number-t.result < length c.before.before.before.before.args.segments.now
-in-zones c =
+in_zones : (c : After-zone_number) → c.zone_number-t.result < length c.before.before.before.before.args.segments.now
+in_zones c =
     let start = c.before.before.before.before in
     let a = start.args in
     let h = start.requires.le_cap in
@@ -45,10 +45,10 @@ in-zones c =
     subst (λ (x : ℕ). x < n) (sym c.zone_number-t.ensures) ((div-lt_iff_lt-mul {k = a.cap} {x = a.q} {y = n} (omega (arith, h.0))).1 k)
 
 pub offset_bounds-segments-t : goal.offset_bounds-segments-t
-offset_bounds-segments-t c = omega (arith, in-zones c.before)
+offset_bounds-segments-t c = omega (arith, in_zones c.before)
 
 pub bounds-segments-t : goal.bounds-segments-t
-bounds-segments-t c = in-zones c.before.before
+bounds-segments-t c = in_zones c.before.before
 
 -- the segment, as it is read
 its_segment : (c : After-wide)

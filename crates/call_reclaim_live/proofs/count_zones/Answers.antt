@@ -55,9 +55,9 @@ count_marks-n-requires c =
     omega (arith, c.clip-to.ensures, c.loop-at.invariant.0, c.requires.first_le_end, end_low at_capacity)
 
 -- zone t is one of the zones, and has a number
-zone-in : (c : After-count_marks) → let a = c.before.before.before.before.before.before.before.before.args in
+zone_in : (c : After-count_marks) → let a = c.before.before.before.before.before.before.before.before.args in
     let t = c.before.before.before.loop-at.t in (t < a.p.N * a.p.Z) × (get_or a.segments.now t 0 ≤ 1024)
-zone-in c =
+zone_in c =
     let at_loop_at = c.before.before.before in
     let at_capacity_cap = at_loop_at.before in
     let start = at_capacity_cap.before.before.before.before in
@@ -70,14 +70,14 @@ zone-in c =
 
 pub offset_bounds-segments-t : goal.offset_bounds-segments-t
 offset_bounds-segments-t c =
-    omega (arith, (zone-in c.before).0, zones_all c.args.p (ranged c.args.p c.requires.p_value))
+    omega (arith, (zone_in c.before).0, zones_all c.args.p (ranged c.args.p c.requires.p_value))
 
 pub bounds-segments-t : goal.bounds-segments-t
-bounds-segments-t c = omega (arith, (zone-in c.before.before).0, c.requires.first_le_end.4.0)
+bounds-segments-t c = omega (arith, (zone_in c.before.before).0, c.requires.first_le_end.4.0)
 
 -- the number of its segment
 number_low : (c : After-wide) → c.wide-g.result ≤ 1024
-number_low c = omega (arith, c.wide-g.ensures, (zone-in c.before.before).1)
+number_low c = omega (arith, c.wide-g.ensures, (zone_in c.before.before).1)
 
 pub offset_bounds-live-g : goal.offset_bounds-live-g
 offset_bounds-live-g c = omega (arith, number_low c.before)
@@ -114,7 +114,7 @@ overflow_add-at-in-loop-at c =
 pub overflow_add-t : goal.overflow_add-t
 overflow_add-t c =
     let at_count_marks = c.before.before.before.before in
-    omega (arith, (zone-in at_count_marks).0, zones_all c.args.p (ranged c.args.p c.requires.p_value))
+    omega (arith, (zone_in at_count_marks).0, zones_all c.args.p (ranged c.args.p c.requires.p_value))
 
 pub loop-at-smaller : goal.loop-at-smaller
 loop-at-smaller c =

@@ -55,9 +55,9 @@ loop-f-init c =
     (omega arith, omega arith, omega arith, c.block_byte-at.ensures.0 ∙ ap (λ (x : ℕ). place_byte a.p (place_of a.p a.drive a.zone x)) (sym (add-zero (1 + a.p.S))))
 
 -- what is counted, of all data blocks of the zone
-of-all : (p : Params) (addresses : List ℕ) (first first' c o : ℕ) → first ≡ first' → o ≤ p.S → c ≤ length (pointed_from addresses p.L first o)
+of_all : (p : Params) (addresses : List ℕ) (first first' c o : ℕ) → first ≡ first' → o ≤ p.S → c ≤ length (pointed_from addresses p.L first o)
     → (c ≤ length (pointed_from addresses p.L first' p.S)) × (c ≤ p.S)
-of-all p addresses first first' c o e h k =
+of_all p addresses first first' c o e h k =
     let f = is_pointed addresses p.L in
     let w = subst (λ (x : ℕ). length (pointed_from addresses p.L first o) ≤ length (pointed_from addresses p.L x p.S)) e (run_longer f first o p.S h) in
     (omega (arith, k, w), omega (arith, k, h, run_le f first o))
@@ -68,7 +68,7 @@ returns-then-most-c c =
     let a = c.args in
     let i = loop.invariant in
     let first = c.place_of-first.result.0 in
-    let w = of-all a.p a.addresses.now first (place_of a.p a.drive a.zone 1) loop.c loop.o c.place_of-first.ensures.0 i.1 i.2 in
+    let w = of_all a.p a.addresses.now first (place_of a.p a.drive a.zone 1) loop.c loop.o c.place_of-first.ensures.0 i.1 i.2 in
     (w.0, omega (arith, w.1, (ranged a.p c.requires.p_value).stripes_high))
 
 pub overflow_add-first : goal.overflow_add-first
@@ -184,5 +184,5 @@ returns c =
     let a = c.args in
     let i = c.loop-f.invariant in
     let first = c.place_of-first.result.0 in
-    let w = of-all a.p a.addresses.now first (place_of a.p a.drive a.zone 1) c.loop-f.c c.loop-f.o c.place_of-first.ensures.0 i.1 i.2 in
+    let w = of_all a.p a.addresses.now first (place_of a.p a.drive a.zone 1) c.loop-f.c c.loop-f.o c.place_of-first.ensures.0 i.1 i.2 in
     (w.0, omega (arith, w.1, (ranged a.p c.requires.p_value).stripes_high))

@@ -33,8 +33,8 @@ pub clip-to-requires : goal.clip-to-requires
 clip-to-requires c = omega arith
 
 -- zone t is one of the zones
-zone-in : (c : After-clip-to) → let a = c.args in c.loop-at.t < a.p.N * a.p.Z
-zone-in c =
+zone_in : (c : After-clip-to) → let a = c.args in c.loop-at.t < a.p.N * a.p.Z
+zone_in c =
     let a = c.args in
     let l = c.loop-at in
     let e : l.at ≡ l.t * capacity a.p = l.invariant.1 ∙ ap (λ (x : ℕ). l.t * x) c.capacity-cap.ensures.0 in
@@ -42,10 +42,10 @@ zone-in c =
 
 pub offset_bounds-segments-t : goal.offset_bounds-segments-t
 offset_bounds-segments-t c =
-    omega (arith, zone-in (goal.at.offset_bounds-segments-t c).After-clip-to, zones_all c.args.p (ranged c.args.p c.requires.p_value))
+    omega (arith, zone_in (goal.at.offset_bounds-segments-t c).After-clip-to, zones_all c.args.p (ranged c.args.p c.requires.p_value))
 
 pub bounds-segments-t : goal.bounds-segments-t
-bounds-segments-t c = omega (arith, zone-in (goal.at.bounds-segments-t c).After-clip-to, c.requires.whole.2)
+bounds-segments-t c = omega (arith, zone_in (goal.at.bounds-segments-t c).After-clip-to, c.requires.whole.2)
 
 pub idle_run-found-requires : goal.idle_run-found-requires
 idle_run-found-requires c =
@@ -65,7 +65,7 @@ overflow_add-at-in-loop-at c =
 
 pub overflow_add-t : goal.overflow_add-t
 overflow_add-t c =
-    omega (arith, zone-in (goal.at.overflow_add-t c).After-clip-to, zones_all c.args.p (ranged c.args.p c.requires.p_value))
+    omega (arith, zone_in (goal.at.overflow_add-t c).After-clip-to, zones_all c.args.p (ranged c.args.p c.requires.p_value))
 
 pub loop-at-smaller : goal.loop-at-smaller
 loop-at-smaller c =

@@ -42,22 +42,22 @@ overflow_add-outside c =
     omega (arith, n.ensures.value, count-le c.args.addresses.now p.L (p.N * p.Z * capacity p) 4294967295, n.ensures.taken_counted_2.low 1024 (omega arith), few)
 
 -- as many counts as before
-long-used : (c : After-count_entries-beyond) → c.args.p.Z ≤ length c.count_entries-beyond.new.used
-long-used c =
+long_used : (c : After-count_entries-beyond) → c.args.p.Z ≤ length c.count_entries-beyond.new.used
+long_used c =
     let n : length {A = ℕ} (replicate 1025 0) ≡ 1025 = length-replicate {A = ℕ} 1025 0 in
     subst (λ (x : ℕ). c.args.p.Z ≤ x) (sym (c.count_entries-beyond.auto.used ∙ n)) (omega (arith, (ranged c.args.p c.requires.p_value).zones_high))
 
 pub fewest-g-requires : goal.fewest-g-requires
-fewest-g-requires c = (c.requires.whole.1.sealed_long, long-used (goal.at.fewest-g-requires c).After-count_entries-beyond)
+fewest-g-requires c = (c.requires.whole.1.sealed_long, long_used (goal.at.fewest-g-requires c).After-count_entries-beyond)
 
 -- what lies outside, by the entries
-told-outside : (c : After-count_entries-beyond) (off : List ℕ) →
+told_outside : (c : After-count_entries-beyond) (off : List ℕ) →
     let a = c.args in
     let v = view_of a.p off a.image.now a.pointers.now in
     OwnersShown a.p v a.rows.now a.segments.now a.sealed.now
     → not (eqb (c.count_entries-beyond.result + get_or c.count_entries-beyond.new.used 1024 0) 0) ≡ is_outside a.p v a.addresses.now
 unfolding addresses_len
-told-outside c off sh =
+told_outside c off sh =
     let a = c.args in
     let p = a.p in
     let tb = a.addresses.now in
@@ -90,7 +90,7 @@ returns-then-n-eq0 c =
       zone_lt_z = (λ _. h);
       by_index = λ off sh _.
           looked_empty p (ranged p c.requires.p_value) (v off) a.addresses.now a.rows.now a.segments.now a.sealed.now sh (state_of a.bytes.now) g h (le.taken h) used n.ensures.taken_counted_2 le
-          c.if-n-eq0.true (chosen_of a.rows.now t) refl refl refl refl refl (told-outside (goal.at.returns-then-n-eq0 c).After-count_entries-beyond off sh);
+          c.if-n-eq0.true (chosen_of a.rows.now t) refl refl refl refl refl (told_outside (goal.at.returns-then-n-eq0 c).After-count_entries-beyond off sh);
     }
 
 pub is_quick-requires : goal.is_quick-requires
@@ -98,7 +98,7 @@ is_quick-requires c =
     let p = c.args.p in
     let r = ranged p c.requires.p_value in
     let low = c.count_entries-beyond.ensures.taken_counted_2.low c.fewest-g.result (omega (arith, c.if-p-g.false, r.zones_high)) in
-    record { p_value = c.requires.p_value; z_in_bounds = (long-used (goal.at.is_quick-requires c).After-count_entries-beyond, omega (arith, low, addresses_all p r)) }
+    record { p_value = c.requires.p_value; z_in_bounds = (long_used (goal.at.is_quick-requires c).After-count_entries-beyond, omega (arith, low, addresses_all p r)) }
 
 pub returns-then-not-is_quick : goal.returns-then-not-is_quick
 returns-then-not-is_quick c = record { zone_lt_z = (λ t. absurd (not_both false t refl)); by_index = λ off sh t. absurd (not_both false t refl) }
@@ -153,5 +153,5 @@ returns c =
       by_index = λ off sh sure.
           let w = subst (λ (x : Seg). Vouched p (v off) st x tb (p.N * p.Z * capacity p) s) c.row-segment.ensures (c.see_segment-seen.ensures off) in
           looked_seen p (ranged p c.requires.p_value) (v off) tb a.rows.now a.segments.now a.sealed.now sh st g h (le.taken h) used n.ensures.taken_counted_2 le s w c.if-seen-n.false
-          (c.is_fewest-sure.ensures sure) (chosen_of a.rows.now t) refl refl refl refl refl (told-outside (goal.at.returns c).After-count_entries-beyond off sh);
+          (c.is_fewest-sure.ensures sure) (chosen_of a.rows.now t) refl refl refl refl refl (told_outside (goal.at.returns c).After-count_entries-beyond off sh);
     }

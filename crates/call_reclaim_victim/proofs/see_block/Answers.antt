@@ -24,8 +24,8 @@ zone_there : (c : Start) → zone_on c.args.segment c.args.drive < c.args.p.Z
 zone_there c = low_here c.args.p c.args.segment c.args.drive c.requires.whole.1 c.requires.addresses_len.1
 
 -- the place is that of its data block
-place-there : (c : Start) → c.args.at + c.args.o ≡ place_of c.args.p c.args.drive (zone_on c.args.segment c.args.drive) 1 + c.args.o
-place-there c =
+place_there : (c : Start) → c.args.at + c.args.o ≡ place_of c.args.p c.args.drive (zone_on c.args.segment c.args.drive) 1 + c.args.o
+place_there c =
     let a = c.args in
     let h = c.requires.addresses_len in
     ap (λ (x : ℕ). x + a.o) (h.3 ∙ ap (λ (z : ℕ). place_of a.p a.drive z 1) h.2)
@@ -36,7 +36,7 @@ in_image c =
     let a = c.args in
     let r = ranged a.p c.requires.p_value in
     let h = c.requires.addresses_len in
-    omega (arith, places_high a.p r, vouched_low a.p r a.segment a.drive a.o (a.at + a.o) h.1 (zone_there c) h.4 (place-there c))
+    omega (arith, places_high a.p r, vouched_low a.p r a.segment a.drive a.o (a.at + a.o) h.1 (zone_there c) h.4 (place_there c))
 
 pub record_in-record-requires : goal.record_in-record-requires
 record_in-record-requires c =
@@ -81,8 +81,8 @@ next_idle-first-requires c =
       p_value = c.requires.p_value;
       whole = c.requires.whole;
       place_bound = (
-        vouched_low p r a.segment a.drive a.o q h.1 (zone_there start) h.4 (place-there start),
-        data_even p r a.segment a.drive a.o q h.1 (zone_there start) h.4 (place-there start),
+        vouched_low p r a.segment a.drive a.o q h.1 (zone_there start) h.4 (place_there start),
+        data_even p r a.segment a.drive a.o q h.1 (zone_there start) h.4 (place_there start),
         h.6,
       );
     }
@@ -101,9 +101,9 @@ returns c =
     let r = ranged p c.requires.p_value in
     let h = c.requires.addresses_len in
     let q : ℕ = a.at + a.o in
-    let live = data_live p r a.segment a.drive a.o q h.1 (zone_there start) h.4 (place-there start) tb c.clipped-a.result c.clipped-a.ensures
+    let live = data_live p r a.segment a.drive a.o q h.1 (zone_there start) h.4 (place_there start) tb c.clipped-a.result c.clipped-a.ensures
     (sym c.place_at-there.ensures ∙ c.if-there-q.false) in
-    let even = data_even p r a.segment a.drive a.o q h.1 (zone_there start) h.4 (place-there start) in
+    let even = data_even p r a.segment a.drive a.o q h.1 (zone_there start) h.4 (place_there start) in
     let s : Idle = record { first = c.next_idle-first.result; odd = 1024 } in
     let low : q < 4294967295 = omega (arith, in_image start) in record {
       live_bound = omega arith;

@@ -75,8 +75,8 @@ module _ (c : After-must_wait) where
       (ap (λ (x : Aim). cond x.opens 2 1) (sym begun.requires.f_value.1) ∙ sym c.before.before.reserve-n.ensures.0)
       ∙ sym (c.before.scarce-full.ensures im h)
 
-  wait-is : must_wait begun.args.p (said begun) ≡ c.must_wait-wait.result
-  wait-is = sym (front_wait begun.args.p (said begun) begun.args.f begun.requires.f_value.0) ∙ sym c.must_wait-wait.ensures
+  wait_is : must_wait begun.args.p (said begun) ≡ c.must_wait-wait.result
+  wait_is = sym (front_wait begun.args.p (said begun) begun.args.f begun.requires.f_value.0) ∙ sym c.must_wait-wait.ensures
 
 pub returns-then-no_stamp : goal.returns-then-no_stamp
 returns-then-no_stamp c =
@@ -113,7 +113,7 @@ returns-then-wait c =
     let s = begun at_must_wait in
     let k = mk_disk im s.args.pointers.now in
     let m = mk_memory (said s) ad co fl in
-    wait_fails s.args.p s.args.offline.now k m x b (wait-is at_must_wait ∙ c.if-wait.true)
+    wait_fails s.args.p s.args.offline.now k m x b (wait_is at_must_wait ∙ c.if-wait.true)
     ∙ write_zones_suffice s.args.p s.args.offline.now k m x b (full_is at_must_wait im h ∙ c.if-full.false) ∙ counted at_must_wait im ad co fl b x
 
 pub state_ok-requires : goal.state_ok-requires
@@ -129,7 +129,7 @@ roomy c im ad co fl b x h =
     let s = begun at_must_wait in
     let k = mk_disk im s.args.pointers.now in
     let m = mk_memory (said s) ad co fl in
-    wait_passes s.args.p s.args.offline.now k m x b (wait-is at_must_wait ∙ c.before.if-wait.false)
+    wait_passes s.args.p s.args.offline.now k m x b (wait_is at_must_wait ∙ c.before.if-wait.false)
     ∙ write_zones_suffice s.args.p s.args.offline.now k m x b (full_is at_must_wait im h ∙ c.before.before.if-full.false) ∙ counted at_must_wait im ad co fl b x
 
 pub returns-then-not-state_ok : goal.returns-then-not-state_ok

@@ -72,9 +72,9 @@ abbrev start : After-checks → Start
 start c =
     c.before.before.before.before.before.before.before.before.before.before.before
 
-checked-is : (c : After-checks)
+checked_is : (c : After-checks)
     → checked c.checks-c.result ≡ write_refusal (start c).args.p (start c).args.offline.now (disk (start c)) (memory (start c)) (start c).args.address.0 (start c).args.block.now
-checked-is c =
+checked_is c =
     let s = start c in
     let a = s.args in
     subst (λ (x : State). checked c.checks-c.result
@@ -88,7 +88,7 @@ returns-in-Fail c =
     let start' = at_checks.before.before.before.before.before.before.before.before.before.before.before in
     let a = c.args in
     write_refused a.p a.offline.now (disk start') (memory start') a.address.0 a.block.now a.count c.requires.2 c.kept.result
-    (sym (checked-is at_checks) ∙ ap checked c.in-Fail.is ∙ ap (λ (x : Change). some x.answer) (sym c.kept.ensures))
+    (sym (checked_is at_checks) ∙ ap checked c.in-Fail.is ∙ ap (λ (x : Change). some x.answer) (sym c.kept.ensures))
 
 pub open-o-requires : goal.open-o-requires
 open-o-requires c =
@@ -98,7 +98,7 @@ open-o-requires c =
     let g = c.aim_of-a in
     let f = c.front_of-f in
     let a = c.args in
-    let none! : write_refusal a.p a.offline.now (disk start') (memory start') a.address.0 a.block.now ≡ none = sym (checked-is at_checks) ∙ ap checked c.in_default.is in
+    let none! : write_refusal a.p a.offline.now (disk start') (memory start') a.address.0 a.block.now ≡ none = sym (checked_is at_checks) ∙ ap checked c.in_default.is in
     let r = write_ready a.p a.offline.now (disk start') (memory start') a.address.0 a.block.now none! in record {
       p_value = r.ranged;
       whole = (r.whole, r.offline_long);
@@ -118,7 +118,7 @@ returns-then-o c =
     let front_of =
     c.front_of-f in
     let a = c.args in
-    let none! : write_refusal a.p a.offline.now (disk start') (memory start') a.address.0 a.block.now ≡ none = sym (checked-is at_checks) ∙ ap checked c.in_default.is in
+    let none! : write_refusal a.p a.offline.now (disk start') (memory start') a.address.0 a.block.now ≡ none = sym (checked_is at_checks) ∙ ap checked c.in_default.is in
     let o = c.open-o in
     let k' : Disk = mk_disk o.new.image o.new.pointers in
     let h : OpeningStores a.p a.offline.now a.state a.count (disk start') o.result k' =
@@ -133,7 +133,7 @@ row_at-row-requires c =
     let at_aim_of = at_checks.before in
     let start' = at_aim_of.before.before.before.before.before.before.before.before.before.before in
     let a = c.args in
-    let none! : write_refusal a.p a.offline.now (disk start') (memory start') a.address.0 a.block.now ≡ none = sym (checked-is at_checks) ∙ ap checked c.in_default.is in (
+    let none! : write_refusal a.p a.offline.now (disk start') (memory start') a.address.0 a.block.now ≡ none = sym (checked_is at_checks) ∙ ap checked c.in_default.is in (
       c.requires.1,
       subst (λ (x : Aim). x.slot < 8) (sym (aimed at_aim_of))
           (slot_lt a.p a.state (write_ready a.p a.offline.now (disk start') (memory start') a.address.0 a.block.now none!).waits),
@@ -158,7 +158,7 @@ plan-requires c =
     let aim-of = c.aim_of-a in
     let f = c.front_of-f in
     let a = c.args in
-    let none! : write_refusal a.p a.offline.now (disk start') (memory start') a.address.0 a.block.now ≡ none = sym (checked-is at_checks) ∙ ap checked c.in_default.is in
+    let none! : write_refusal a.p a.offline.now (disk start') (memory start') a.address.0 a.block.now ≡ none = sym (checked_is at_checks) ∙ ap checked c.in_default.is in
     let r = write_ready a.p a.offline.now (disk start') (memory start') a.address.0 a.block.now none! in
     let o = c.open-o in
     let k' : Disk = mk_disk o.new.image o.new.pointers in
@@ -184,7 +184,7 @@ returns c =
     let f =
     c.front_of-f in
     let a = c.args in
-    let none! : write_refusal a.p a.offline.now (disk start') (memory start') a.address.0 a.block.now ≡ none = sym (checked-is at_checks) ∙ ap checked c.in_default.is in
+    let none! : write_refusal a.p a.offline.now (disk start') (memory start') a.address.0 a.block.now ≡ none = sym (checked_is at_checks) ∙ ap checked c.in_default.is in
     let o = c.open-o in
     let k' : Disk = mk_disk o.new.image o.new.pointers in
     let h : OpeningStores a.p a.offline.now a.state a.count (disk start') o.result k' =

@@ -7,15 +7,15 @@ use Rattle.spec.specs.Params.{spare_len, zone_len, drive_len, image_len}
 use Rattle.law_basic.specs.Geometry.{prod_le, ranged, spare_len_lem}
 use Rattle.disk_shape.proofs.image_len.Goals as goal
 
-zone-few : (x y : ℕ) → x ≤ 87381 → y ≤ 4096 + spare_len → x * y ≤ 359660196
-zone-few x y a b = prod_le x y 87381 (4096 + spare_len) 359660196 a b (omega (arith, spare_len_lem))
+zone_few : (x y : ℕ) → x ≤ 87381 → y ≤ 4096 + spare_len → x * y ≤ 359660196
+zone_few x y a b = prod_le x y 87381 (4096 + spare_len) 359660196 a b (omega (arith, spare_len_lem))
 
 pub overflow_mul-result : goal.overflow_mul-result
 overflow_mul-result c =
     let p = c.args.p in
     let r = ranged p c.requires in
     let h : c.capacity.result * c.unit_len.result ≤ 359660196 =
-    zone-few c.capacity.result c.unit_len.result (omega arith) (omega arith) in
+    zone_few c.capacity.result c.unit_len.result (omega arith) (omega arith) in
     omega arith
 
 pub overflow_mul-result-2 : goal.overflow_mul-result-2
@@ -25,7 +25,7 @@ overflow_mul-result-2 c =
     let pre = c.requires in
     let p = args.p in
     let r = ranged p (pre) in
-    let h : capacity.result * c.unit_len.result ≤ 359660196 = zone-few capacity.result c.unit_len.result (omega arith) (omega arith) in
+    let h : capacity.result * c.unit_len.result ≤ 359660196 = zone_few capacity.result c.unit_len.result (omega arith) (omega arith) in
     let k : p.Z * (capacity.result * c.unit_len.result) ≤ 368292040704 =
     prod_le p.Z (capacity.result * c.unit_len.result) 1024 359660196 368292040704 r.zones_high h (omega arith) in
     omega arith
@@ -38,7 +38,7 @@ overflow_mul-result-3 c =
     let pre = c.requires in
     let p = args.p in
     let r = ranged p (pre) in
-    let h : capacity.result * unit-len.result ≤ 359660196 = zone-few capacity.result unit-len.result (omega arith) (omega arith) in
+    let h : capacity.result * unit-len.result ≤ 359660196 = zone_few capacity.result unit-len.result (omega arith) (omega arith) in
     let k : p.Z * (capacity.result * unit-len.result) ≤ 368292040704 = prod_le p.Z (capacity.result * unit-len.result) 1024 359660196 368292040704 r.zones_high h (omega arith) in
     let m : p.N * (p.Z * (capacity.result * unit-len.result)) ≤ 2946336325632 =
     prod_le p.N (p.Z * (capacity.result * unit-len.result)) 8 368292040704 2946336325632 r.drives_high k (omega arith) in
@@ -53,7 +53,7 @@ returns c =
     let pre = c.requires in
     let p = args.p in
     let r = ranged p (pre) in
-    let h : capacity.result * unit-len.result ≤ 359660196 = zone-few capacity.result unit-len.result (omega arith) (omega arith) in
+    let h : capacity.result * unit-len.result ≤ 359660196 = zone_few capacity.result unit-len.result (omega arith) (omega arith) in
     let k : p.Z * (capacity.result * unit-len.result) ≤ 368292040704 = prod_le p.Z (capacity.result * unit-len.result) 1024 359660196 368292040704 r.zones_high h (omega arith) in
     let m : p.N * (p.Z * (capacity.result * unit-len.result)) ≤ 2946336325632 =
     prod_le p.N (p.Z * (capacity.result * unit-len.result)) 8 368292040704 2946336325632 r.drives_high k (omega arith) in

@@ -19,15 +19,15 @@ module _ (c : After-most_with) where
   abbrev begun : Start
   begun = c.before.before.before.before
 
-  few-is : few_good begun.args.p begun.args.offline.now ≡ ltb c.before.good_count-n.result 4
-  few-is =
+  few_is : few_good begun.args.p begun.args.offline.now ≡ ltb c.before.good_count-n.result 4
+  few_is =
       let a = begun.args in
       let n = c.before.good_count-n in
       let m = c.before.before.enough in
       sym (few_by a.p a.offline.now m.result n.result m.ensures.0 m.ensures.2 n.ensures.0)
 
-  narrow-is : above_narrow begun.args.p begun.args.offline.now ≡ ltb c.most_with.result begun.args.p.L
-  narrow-is =
+  narrow_is : above_narrow begun.args.p begun.args.offline.now ≡ ltb c.most_with.result begun.args.p.L
+  narrow_is =
       let a = begun.args in
       let n = c.before.good_count-n in
       let m = c.before.before.enough in
@@ -37,16 +37,16 @@ pub returns-then-few : goal.returns-then-few
 returns-then-few c =
     let at_most_with = c.before.before.before in
     let a = (begun at_most_with).args in
-    sym (list_few a.p a.offline.now (few-is at_most_with ∙ c.if-few.true-raw))
+    sym (list_few a.p a.offline.now (few_is at_most_with ∙ c.if-few.true-raw))
 
 pub returns-then-narrow : goal.returns-then-narrow
 returns-then-narrow c =
     let at_most_with = c.before.before.before.before in
     let a = (begun at_most_with).args in
-    sym (list_narrow a.p a.offline.now (few-is at_most_with ∙ c.if-few.false-raw) (narrow-is at_most_with ∙ c.if-narrow.true-raw))
+    sym (list_narrow a.p a.offline.now (few_is at_most_with ∙ c.if-few.false-raw) (narrow_is at_most_with ∙ c.if-narrow.true-raw))
 
 pub returns : goal.returns
 returns c =
     let at_most_with = c.before.before.before.before in
     let a = (begun at_most_with).args in
-    sym (list_fits a.p a.offline.now (few-is at_most_with ∙ c.if-few.false-raw) (narrow-is at_most_with ∙ c.if-narrow.false-raw))
+    sym (list_fits a.p a.offline.now (few_is at_most_with ∙ c.if-few.false-raw) (narrow_is at_most_with ∙ c.if-narrow.false-raw))

@@ -30,18 +30,18 @@ live_fits c = search rules
 missing_fits : (c : Start) → c.args.missing < 256
 missing_fits c = search rules
 
-long-1 : (c : After-write_le64) → length c.write_le64.new.dst ≡ length c.before.before.before.args.dst.now
-long-1 c = c.write_le64.auto.dst ∙ simp length-set
+long_1 : (c : After-write_le64) → length c.write_le64.new.dst ≡ length c.before.before.before.args.dst.now
+long_1 c = c.write_le64.auto.dst ∙ simp length-set
 
-long-2 : (c : After-write_le642) → length c.write_le64-2.new.dst ≡ length c.before.before.before.before.before.before.before.args.dst.now
-long-2 c =
+long_2 : (c : After-write_le642) → length c.write_le64-2.new.dst ≡ length c.before.before.before.before.before.before.before.args.dst.now
+long_2 c =
     let at_write_le = c.before.before.before.before in
-    c.write_le64-2.auto.dst ∙ long-1 at_write_le
+    c.write_le64-2.auto.dst ∙ long_1 at_write_le
 
-long-3 : (c : After-write_le643) → length c.write_le64-3.new.dst ≡ length c.before.before.before.before.before.before.before.before.before.before.before.args.dst.now
-long-3 c =
+long_3 : (c : After-write_le643) → length c.write_le64-3.new.dst ≡ length c.before.before.before.before.before.before.before.before.before.before.before.args.dst.now
+long_3 c =
     let at_write_le = c.before.before.before.before in
-    c.write_le64-3.auto.dst ∙ long-2 at_write_le
+    c.write_le64-3.auto.dst ∙ long_2 at_write_le
 
 pub bounds-dst-1 : goal.bounds-dst-1
 bounds-dst-1 c = simp length-set (omega arith)
@@ -53,24 +53,24 @@ pub write_le64-requires-2 : goal.write_le64-requires-2
 write_le64-requires-2 c =
     let at_write_le = c.before.before.before in
     let pre = c.requires in
-    omega (arith, long-1 at_write_le, pre)
+    omega (arith, long_1 at_write_le, pre)
 
 pub write_le64-requires-3 : goal.write_le64-requires-3
 write_le64-requires-3 c =
     let at_write_le = c.before.before.before in
     let pre = c.requires in
-    omega (arith, long-2 at_write_le, pre)
+    omega (arith, long_2 at_write_le, pre)
 
 pub write_le32-requires : goal.write_le32-requires
 write_le32-requires c =
     let at_write_le = c.before.before.before in
     let pre = c.requires in
-    omega (arith, long-3 at_write_le, pre)
+    omega (arith, long_3 at_write_le, pre)
 
 pub shape_of-dst : goal.shape_of-dst
 shape_of-dst c =
     let at_write_le = c.before.before.before.before.before.before.before in
-    c.write_le32.auto.dst ∙ long-3 at_write_le
+    c.write_le32.auto.dst ∙ long_3 at_write_le
 
 pub returns : goal.returns
 returns c =

@@ -96,7 +96,7 @@ entry_at c =
     ∙ (λ j. eqb (get_or cs (sym (row_entry a.p a.drive a.zone o compact_at_holds.result compact_at_holds.ensures.0) j) 0) (sym compact-entry.ensures j))
 
 -- what the table shows, as the loop has it
-shown-all : (c : After-group_end-end) (off im : List ℕ) → length im ≡ image_len c.args.p
+shown_all : (c : After-group_end-end) (off im : List ℕ) → length im ≡ image_len c.args.p
     → keep (shows c.args.p
     c.pointer-pointer.result
     c.args.compact.now
@@ -114,7 +114,7 @@ shown-all : (c : After-group_end-end) (off im : List ℕ) → length im ≡ imag
     c.args.drive
     c.args.zone
     c.args.s
-shown-all c off im h =
+shown_all c off im h =
     let a = c.args in
     let group' = c.group in
     let pointer = c.pointer-pointer in
@@ -142,10 +142,10 @@ returns-then-compact-row c =
     ∙ eq-eqb (get_or a.compact.now (compact_at_holds.result + o) 0) compact-entry.result c.if-compact-row.true in
     record {
       by_index = (λ off im h. (search_hit f o m a.p.S (l off im)
-          (loop.invariant ∙ shown-all (goal.at.returns-then-compact-row c).After-group_end-end off im h) gt hit).0);
+          (loop.invariant ∙ shown_all (goal.at.returns-then-compact-row c).After-group_end-end off im h) gt hit).0);
       by_index_2 =
           (λ off im h. ne_eqb o a.p.S (λ q. omega arith)
-          ∙ sym (search_hit f o m a.p.S (l off im) (loop.invariant ∙ shown-all (goal.at.returns-then-compact-row c).After-group_end-end off im h) gt hit).1);
+          ∙ sym (search_hit f o m a.p.S (l off im) (loop.invariant ∙ shown_all (goal.at.returns-then-compact-row c).After-group_end-end off im h) gt hit).1);
       upper_bound = omega arith;
     }
 
@@ -186,8 +186,8 @@ returns c =
     λ k g h. shows-past a.p pointer.result a.compact.now a.drive a.zone a.s group-end.result m group-end.ensures.by_index k
     (omega (arith, c.loop-o-test.false)) h in
     record {
-      by_index = (λ off im h. (search_end f o m a.p.S (l off im) (c.loop-o.invariant ∙ shown-all (goal.at.returns c).After-group_end-end off im h) past).0);
+      by_index = (λ off im h. (search_end f o m a.p.S (l off im) (c.loop-o.invariant ∙ shown_all (goal.at.returns c).After-group_end-end off im h) past).0);
       by_index_2 = (λ off im h. eq-eqb a.p.S a.p.S refl
-          ∙ sym (search_end f o m a.p.S (l off im) (c.loop-o.invariant ∙ shown-all (goal.at.returns c).After-group_end-end off im h) past).1);
+          ∙ sym (search_end f o m a.p.S (l off im) (c.loop-o.invariant ∙ shown_all (goal.at.returns c).After-group_end-end off im h) past).1);
       upper_bound = omega arith;
     }

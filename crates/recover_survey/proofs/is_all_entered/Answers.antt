@@ -11,8 +11,8 @@ use Rattle.recover_groups.specs.Groups.{Entered}
 use Rattle.recover_survey.proofs.is_all_entered.Goals as goal
 
 -- the last, or one before
-at-or-below : (P : ℕ → ℕ → Type 0) (k d e : ℕ) → e < d + 1 → (e < d → P e k) → (e ≡ d → P d k) → P e k
-at-or-below P k d e h f g = go (dec_lt e d)
+at_or_below : (P : ℕ → ℕ → Type 0) (k d e : ℕ) → e < d + 1 → (e < d → P e k) → (e ≡ d → P d k) → P e k
+at_or_below P k d e h f g = go (dec_lt e d)
   where
     go : Dec (e < d) → P e k
     go (yes q) = f q
@@ -49,7 +49,7 @@ loop-d-preserved c =
     let l = c.loop-d in
     let i = c.is_entered in (
       omega (arith, c.loop-d-test.true),
-      λ e h q. at-or-below (Entered a.p a.w.base a.at.now) a.k l.d e h (λ k. l.invariant.1 e k q)
+      λ e h q. at_or_below (Entered a.p a.w.base a.at.now) a.k l.d e h (λ k. l.invariant.1 e k q)
           (λ k. i.ensures.entered (not-false i.result c.if-not-is_entered.false-raw) (subst (λ (x : ℕ). is_in a.w.gone x ≡ false) k q)),
     )
 

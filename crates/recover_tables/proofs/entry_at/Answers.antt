@@ -30,9 +30,9 @@ overflow_add-result c =
     let h = pre.compact_len in
     omega (arith, c.compact_at-from.ensures.2, group_len_fits a.p a.w.base (omega (arith, h.3)), h.3, h.4, (ranged a.p pre.p_value).stripes_high)
 
-at-is : (c : Lts.After-compact_at Tie.the-claims Reads.Pre Reads.Post Tie.handed_clauses)
+at_is : (c : Lts.After-compact_at Tie.the-claims Reads.Pre Reads.Post Tie.handed_clauses)
     → let a = c.before.before.before.before.args in c.compact_at-from.result ≡ compact_at a.p a.drive (zone_on a.w.seg a.drive) a.w.base
-at-is c =
+at_is c =
     let a = c.before.before.before.before.args in
     c.compact_at-from.ensures.0 ∙ ap (λ (z : ℕ). compact_at a.p a.drive z a.w.base) c.before.zone_on-zone.ensures
 
@@ -41,7 +41,7 @@ within c =
     let a = c.before.before.before.before.args in
     let pre = c.before.before.before.before.requires in
     let h = pre.compact_len in
-    let e = at-is c in
+    let e = at_is c in
     omega (
       arith,
       e,
@@ -63,4 +63,4 @@ pub returns : goal.returns
 returns c =
     let a = c.args in
     let k = c.shared_slice_known-2-1.given (c.compact_at-from.result + a.i) in
-    (ap (λ (x : ℕ). get_or a.compact.now (x + a.i) 0) (at-is c.before.before), omega (arith, k))
+    (ap (λ (x : ℕ). get_or a.compact.now (x + a.i) 0) (at_is c.before.before), omega (arith, k))
