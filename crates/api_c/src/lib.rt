@@ -3,7 +3,7 @@
 // and encode it. A refusal leaves the bytes.
 #![tactic(auto)]
 
-ghost use Rattle.std.specs.Prelude.{◌≡◌, cond, [], ℕ};
+ghost use Rattle.std.specs.Prelude.{◌≡◌, true, false, cond, [], ℕ};
 ghost use Rattle.spec.specs.Host.{heard, hears, lending};
 ghost use Rattle.spec.specs.Engine.{call_bytes};
 ghost use Rattle.spec.specs.Engine.Call.{write, land, close, reclaim, read, fill, restart, rebuild};
@@ -11,6 +11,32 @@ ghost use Rattle.spec.specs.Memory.{state_len};
 ghost use Rattle.spec.specs.Params.{mk_params, in_range, image_len, pointers_len, offline_len, addresses_len, compact_len, inflight_len};
 
 use spec::{Address, Params, Told};
+
+// The six numbers of an array.
+fn params(n: usize, b: usize, z: usize, s: usize, g: usize, l: usize) -> Params
+    ensures { result ≡ mk_params n b z s g l }
+{
+    Params {
+        N: n,
+        B: b,
+        Z: z,
+        S: s,
+        G: g,
+        L: l,
+    }
+}
+
+// A length that the parameters say; 0 where one is outside its range.
+fn length_of<F: FnOnce(Params) -> usize>(p: Params, length: F) -> usize
+    requires { in_range p ≡ true → F.pre length p }
+    ensures within { in_range p ≡ true → F.post length p result }
+    ensures outside { in_range p ≡ false → result ≡ 0 }
+{
+    if !disk_shape::in_range(p) {
+        return 0;
+    }
+    length(p)
+}
 
 // The length of the list of offline zones (02, item 4); 0 where a parameter is outside its range.
 #[unsafe(no_mangle)]
@@ -24,18 +50,7 @@ pub extern "C" fn sorgizhed_offline_length(
 ) -> usize
     ensures { result ≡ cond (in_range (mk_params n b z s g l)) (offline_len (mk_params n b z s g l)) 0 }
 {
-    let p = Params {
-        N: n,
-        B: b,
-        Z: z,
-        S: s,
-        G: g,
-        L: l,
-    };
-    if disk_shape::in_range(p) {
-        return disk_shape::offline_len(p);
-    }
-    0
+    length_of(params(n, b, z, s, g, l), |p| disk_shape::offline_len(p))
 }
 
 // The length of the buffer of the drives; 0 where a parameter is outside its range.
@@ -50,18 +65,7 @@ pub extern "C" fn sorgizhed_image_length(
 ) -> usize
     ensures { result ≡ cond (in_range (mk_params n b z s g l)) (image_len (mk_params n b z s g l)) 0 }
 {
-    let p = Params {
-        N: n,
-        B: b,
-        Z: z,
-        S: s,
-        G: g,
-        L: l,
-    };
-    if disk_shape::in_range(p) {
-        return disk_shape::image_len(p);
-    }
-    0
+    length_of(params(n, b, z, s, g, l), |p| disk_shape::image_len(p))
 }
 
 // The length of the buffer of the write pointers; 0 where a parameter is outside its range.
@@ -76,18 +80,7 @@ pub extern "C" fn sorgizhed_pointers_length(
 ) -> usize
     ensures { result ≡ cond (in_range (mk_params n b z s g l)) (pointers_len (mk_params n b z s g l)) 0 }
 {
-    let p = Params {
-        N: n,
-        B: b,
-        Z: z,
-        S: s,
-        G: g,
-        L: l,
-    };
-    if disk_shape::in_range(p) {
-        return disk_shape::pointers_len(p);
-    }
-    0
+    length_of(params(n, b, z, s, g, l), |p| disk_shape::pointers_len(p))
 }
 
 // The length of the buffer of the address table; 0 where a parameter is outside its range.
@@ -102,18 +95,7 @@ pub extern "C" fn sorgizhed_addresses_length(
 ) -> usize
     ensures { result ≡ cond (in_range (mk_params n b z s g l)) (addresses_len (mk_params n b z s g l)) 0 }
 {
-    let p = Params {
-        N: n,
-        B: b,
-        Z: z,
-        S: s,
-        G: g,
-        L: l,
-    };
-    if disk_shape::in_range(p) {
-        return disk_shape::addresses_len(p);
-    }
-    0
+    length_of(params(n, b, z, s, g, l), |p| disk_shape::addresses_len(p))
 }
 
 // The length of the buffer of the compact stripe table; 0 where a parameter is outside its range.
@@ -128,18 +110,7 @@ pub extern "C" fn sorgizhed_compact_length(
 ) -> usize
     ensures { result ≡ cond (in_range (mk_params n b z s g l)) (compact_len (mk_params n b z s g l)) 0 }
 {
-    let p = Params {
-        N: n,
-        B: b,
-        Z: z,
-        S: s,
-        G: g,
-        L: l,
-    };
-    if disk_shape::in_range(p) {
-        return disk_shape::compact_len(p);
-    }
-    0
+    length_of(params(n, b, z, s, g, l), |p| disk_shape::compact_len(p))
 }
 
 // The length of the buffer of the stripes in flight; 0 where a parameter is outside its range.
@@ -154,18 +125,7 @@ pub extern "C" fn sorgizhed_inflight_length(
 ) -> usize
     ensures { result ≡ cond (in_range (mk_params n b z s g l)) (inflight_len (mk_params n b z s g l)) 0 }
 {
-    let p = Params {
-        N: n,
-        B: b,
-        Z: z,
-        S: s,
-        G: g,
-        L: l,
-    };
-    if disk_shape::in_range(p) {
-        return disk_shape::inflight_len(p);
-    }
-    0
+    length_of(params(n, b, z, s, g, l), |p| disk_shape::inflight_len(p))
 }
 
 // The length of the state's bytes.

@@ -99,10 +99,8 @@ fn fold_longs(src: &[u8], n: usize) -> u64
     ensures { result ≡ xor_all (longs_in n src.now) }
 {
     let mut x: u64 = 0;
-    let mut i = 0;
-    while i < n {
+    for i in 0..n {
         x = x ^ bits_be::read_be64(src, 8 * i);
-        i += 1;
     }
     x
 }
@@ -113,10 +111,8 @@ fn fold_width(src: &[u8], n: usize) -> u64
     ensures { result ≡ xor_all (longs_in n src.now) }
 {
     let mut x: u64 = 0;
-    let mut i = 0;
-    while i < n {
+    for i in 0..n {
         x = x ^ bits_be::read_be(src, 8 * i, 8);
-        i += 1;
     }
     x
 }
@@ -127,10 +123,8 @@ fn run_longs(dst: &mut [u8], n: usize, first: u32)
     ensures { dst.new ≡ splice dst.old 0 (flat (to_be 8) (up_from first n)) }
 {
     let low = first as u64;
-    let mut i = 0;
-    while i < n {
+    for i in 0..n {
         bits_be::write_be64(dst, 8 * i, low + i as u64);
-        i += 1;
     }
 }
 
@@ -140,10 +134,8 @@ fn run_width(dst: &mut [u8], n: usize, first: u32)
     ensures { dst.new ≡ splice dst.old 0 (flat (to_be 8) (up_from first n)) }
 {
     let low = first as u64;
-    let mut i = 0;
-    while i < n {
+    for i in 0..n {
         bits_be::write_be(dst, 8 * i, 8, low + i as u64);
-        i += 1;
     }
 }
 

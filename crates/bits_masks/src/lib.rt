@@ -37,7 +37,7 @@ pub fn has_drive(mask: u8, drive: usize) -> bool
 pub fn count(mask: u8) -> usize
     ensures { (result ≡ ones mask) × (result ≤ 8) }
 {
-    u8::count_ones(mask) as usize
+    mask.count_ones() as usize
 }
 
 // Whether as many drives are in the mask as there are drives.

@@ -53,18 +53,25 @@ module _ (p : Params) (off : List ℕ) (k : Disk) (m : Memory) where
   unfolding close_checks
   close_lengths_fail e = sym (rule_fails 2 (not (lent_ok_of p off k m)) (rest 1) (ap not e))
 
-  pub close_lengths_pass : lent_ok_of p off k m ≡ true → close_from 2 ≡ close_from 1
+  close_lengths_pass : lent_ok_of p off k m ≡ true → close_from 2 ≡ close_from 1
   unfolding close_checks
   close_lengths_pass e = sym (rule_passes 2 (not (lent_ok_of p off k m)) (rest 1) (ap not e))
 
-  -- 02, item 4: r is what `list_rule` answers
-  pub close_list_fails : (r : ℕ) → r ≡ list_rule_of p off → (r ≡ 0 → ⊥) → some (Refused r) ≡ close_from 2
+  -- 02, item 4
+  pub close_list_fails : (r : Answer) → some r ≡ list_rule_of p off → some r ≡ close_from 2
   unfolding close_checks view_of
-  close_list_fails r e f = sym (list_fails p (seen p off k) (rest 3) r e f)
+  close_list_fails r e = list_fails p (seen p off k) (rest 3) r e
 
-  pub close_list_passes : (r : ℕ) → r ≡ list_rule_of p off → r ≡ 0 → close_from 4 ≡ close_from 2
+  close_list_passes : none ≡ list_rule_of p off → close_from 4 ≡ close_from 2
   unfolding close_checks view_of
-  close_list_passes r e f = sym (list_passes p (seen p off k) (rest 3) r e f)
+  close_list_passes e = sym (list_passes p (seen p off k) (rest 3) e)
+
+  -- 1 and 2 pass, and 10 and the narrow 1
+  pub close_lent : in_range p ≡ true → lent_ok_of p off k m ≡ true → close_from 2 ≡ close_from 0
+  close_lent e f = close_lengths_pass f ∙ close_range_passes e
+
+  pub close_listed : in_range p ≡ true → lent_ok_of p off k m ≡ true → none ≡ list_rule_of p off → close_from 4 ≡ close_from 0
+  close_listed e f g = close_list_passes g ∙ close_lent e f
 
   pub close_missing_fails : (m.state.missing ≡ 0 → ⊥) → some (Refused 3) ≡ close_from 4
   unfolding close_checks

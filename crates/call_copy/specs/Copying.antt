@@ -1,5 +1,5 @@
 -- A copy: a block sent with its old stamp (01, Reclaim). Assumes nothing.
-use Rattle.std.specs.Prelude.{ℕ, ◌+◌, ◌-◌, ◌*◌, ◌≤◌, ◌<◌, take, replicate, true, false, not, ◌≡◌}
+use Rattle.std.specs.Prelude.{Result, Ok, Err, ℕ, ◌+◌, ◌-◌, ◌*◌, ◌≤◌, ◌<◌, take, replicate, true, false, not, ◌≡◌}
 use Rattle.call_reclaim_live.specs.Live.{drive_low}
 use Rattle.spec.specs.Bytes.{part, splice}
 use Rattle.spec.specs.Calls.{Plan, mk_plan, mk_after, cut_memory, outcome}
@@ -22,6 +22,7 @@ use Rattle.call_filling.specs.Entries.{SentRow, sent_row, front_as, row_filled, 
 use Rattle.call_filling.specs.Left.{open_stores, OpeningStores}
 use Rattle.call_filling.specs.declared.Aim.{Aim}
 use Rattle.call_filling.specs.declared.Opened.{Opened}
+use Rattle.disk_zones.specs.declared.TooFew.{TooFew}
 use Rattle.law_basic.specs.Geometry.{Ranged, ranged, place_again, capacity-low, data_count_high, zone_low}
 use Rattle.law_basic.specs.Splice.{length_part, part-splice}
 use Rattle.law_basic.specs.Stores.{stores_all, done_all, cut_prefix}
@@ -98,8 +99,7 @@ copied_as f al o t q = record {
 
 -- ---- the two ends of a copy
 
-module _ (p : Params) (off : List ℕ) (k : Disk) (m : Memory) (a t : ℕ) (b : List ℕ) (n : ℕ) (w : CopyReady p off k m) (o : Opened) (k' : Disk)
-    (h : OpeningStores p off m.state n k o k') where
+module _ (p : Params) (off : List ℕ) (k : Disk) (m : Memory) (a t : ℕ) (b : List ℕ) (n : ℕ) (w : CopyReady p off k m) (k' : Disk) where
   abbrev st : State
   st = m.state
 
@@ -110,70 +110,72 @@ module _ (p : Params) (off : List ℕ) (k : Disk) (m : Memory) (a t : ℕ) (b : 
   unfolding sent_plan sending
   copy_plan_stores = refl
 
-  due_disk : k' ≡ store_all (store_disk p) (take n (sent_plan p (seen p off k) m a t b).stores) k
-  due_disk = h.disk ∙ ap (λ (x : List Store). store_all (store_disk p) (take n x) k) (sym copy_plan_stores)
+  due_disk : (r : Result Opened TooFew) → OpeningStores p off m.state n k r k' → k' ≡ store_all (store_disk p) (take n (sent_plan p (seen p off k) m a t b).stores) k
+  due_disk r h = h.disk ∙ ap (λ (x : List Store). store_all (store_disk p) (take n x) k) (sym copy_plan_stores)
 
-  pub copy_cut : o.cut ≡ true → (c : Change) (ad co : List ℕ) → c.answer ≡ Cut → ad ≡ replicate (length m.addresses) 0 → co ≡ replicate (length m.compact) 0
+  pub copy_cut : OpeningStores p off m.state n k (Err (record {})) k' → (c : Change) (ad co : List ℕ) → c.answer ≡ Cut → ad ≡ replicate (length m.addresses) 0
+      → co ≡ replicate (length m.compact) 0
       → after_change st c k'.image k'.pointers ad co m.inflight [] ≡ outcome p (store_disk p) n k m [] (due (sent_plan p (seen p off k) m a t b))
-  copy_cut c r ad co e f g =
+  copy_cut h r ad co e f g =
       let q : mk_memory (state_after st r) ad co m.inflight ≡ cut_memory p m = cut_memory_lem p m (state_after st r) ad co w.addresses_long w.compact_long (state_cut st r e) f g in
-      (λ j. mk_after (e j) (due_disk j) (q j) [])
+      (λ j. mk_after (e j) (due_disk (Err (record {})) h j) (q j) [])
       ∙ sym (cut_prefix p (store_disk p) n k m [] (sent_plan p (seen p off k) m a t b)
-      (subst (λ (x : List Store). n < length x) (sym copy_plan_stores) (ltb-true n (length (open_stores p off k m.state)) (sym h.cut ∙ c))))
+      (subst (λ (x : List Store). n < length x) (sym copy_plan_stores) (ltb-true n (length (open_stores p off k m.state)) (sym h.cut))))
 
-  -- the block sent, the next stripe number being x
-  abbrev sent_at : ℕ → SentRow
-  sent_at x = sent_row p (slot_row st at) m.inflight at (not (has_filling p st)) x a t 0 b
+  module _ (o : Opened) (h : OpeningStores p off m.state n k (Ok o) k') where
+    -- the block sent, the next stripe number being x
+    abbrev sent_at : ℕ → SentRow
+    sent_at x = sent_row p (slot_row st at) m.inflight at (not (has_filling p st)) x a t 0 b
 
-  -- the state after a copy, with the numbers in front
-  copy_state : state_after st (copied_as (front_of st) (aim_of p st) o t (sent_at o.next)) ≡ put_row (front_as st o.serial.0 o.opened (sent_at o.next).next) at (sent_at o.next).row
-  unfolding is_refused is_cut_of kind put_front
-  copy_state =
-      let c = copied_as (front_of st) (aim_of p st) o t (sent_at o.next) in
-      after_done st c refl refl ∙ changed_row st c (slot_lt p st w.waits)
+    -- the state after a copy, with the numbers in front
+    copy_state : state_after st (copied_as (front_of st) (aim_of p st) o t (sent_at o.next)) ≡ put_row (front_as st o.serial.0 o.opened (sent_at o.next).next) at (sent_at o.next).row
+    unfolding is_refused is_cut_of kind put_front
+    copy_state =
+        let c = copied_as (front_of st) (aim_of p st) o t (sent_at o.next) in
+        after_done st c refl refl ∙ changed_row st c (slot_lt p st w.waits)
 
-  copy_done : RowsSized st → o.cut ≡ false
-      → after_change st (copied_as (front_of st) (aim_of p st) o t (sent_at o.next)) k'.image k'.pointers m.addresses m.compact (sent_at o.next).inflight []
-      ≡ outcome p (store_disk p) n k m [] (due (sent_plan p (seen p off k) m a t b))
-  unfolding sent_plan
-  copy_done sized c =
-      let v = seen p off k in
-      let s = slot_lt p st w.waits in
-      let d : data_count p < 8 = omega (arith, data_count_high p (ranged p w.in_range_holds)) in
-      let ss = open_stores p off k st in
-      let l : length ss ≤ n = ltb-false n (length ss) (sym h.cut ∙ c) in
-      let e : k' ≡ store_all (store_disk p) ss k = h.disk ∙ stores_all (store_disk p) n ss k l in
-      ap (λ (x : State). mk_after (Copied (a_stamp t) (sent_at o.next).row.number (sent_at o.next).drive) k'
-      (mk_memory x m.addresses m.compact (sent_at o.next).inflight) []) copy_state
-      ∙ (λ j. let q = sent_at (h.next j) in
-      mk_after (Copied (a_stamp t) q.row.number q.drive) (e j) (mk_memory (put_row (front_as st (h.serial j) (h.opened j) q.next) at q.row) m.addresses m.compact q.inflight) [])
-      ∙ ap (λ (q : Sending). mk_after (Copied (a_stamp t) q.stripe q.drive) (store_all (store_disk p) q.stores k) (mk_memory q.state m.addresses m.compact q.inflight) [])
-      (sending_row p st s sized v m.inflight a t 0 b (start_room p st s sized d))
-      ∙ sym (done_all p (store_disk p) n k m [] (sent_plan p v m a t b) (subst (λ (x : List Store). length x ≤ n) (sym copy_plan_stores) l))
+    copy_done : RowsSized st
+        → after_change st (copied_as (front_of st) (aim_of p st) o t (sent_at o.next)) k'.image k'.pointers m.addresses m.compact (sent_at o.next).inflight []
+        ≡ outcome p (store_disk p) n k m [] (due (sent_plan p (seen p off k) m a t b))
+    unfolding sent_plan
+    copy_done sized =
+        let v = seen p off k in
+        let s = slot_lt p st w.waits in
+        let d : data_count p < 8 = omega (arith, data_count_high p (ranged p w.in_range_holds)) in
+        let ss = open_stores p off k st in
+        let l : length ss ≤ n = ltb-false n (length ss) (sym h.cut) in
+        let e : k' ≡ store_all (store_disk p) ss k = h.disk ∙ stores_all (store_disk p) n ss k l in
+        ap (λ (x : State). mk_after (Copied (a_stamp t) (sent_at o.next).row.number (sent_at o.next).drive) k'
+        (mk_memory x m.addresses m.compact (sent_at o.next).inflight) []) copy_state
+        ∙ (λ j. let q = sent_at (h.front.next j) in
+        mk_after (Copied (a_stamp t) q.row.number q.drive) (e j) (mk_memory (put_row (front_as st (h.front.serial j) (h.front.opened j) q.next) at q.row) m.addresses m.compact q.inflight) [])
+        ∙ ap (λ (q : Sending). mk_after (Copied (a_stamp t) q.stripe q.drive) (store_all (store_disk p) q.stores k) (mk_memory q.state m.addresses m.compact q.inflight) [])
+        (sending_row p st s sized v m.inflight a t 0 b (start_room p st s sized d))
+        ∙ sym (done_all p (store_disk p) n k m [] (sent_plan p v m a t b) (subst (λ (x : List Store). length x ≤ n) (sym copy_plan_stores) l))
 
-  -- the same of the front, the aim and the stripe that the code has
-  module _ (f : Front) (same : f ≡ front_of m.state) (al : Aim) (aimed : al ≡ aim_of p m.state) (row : Row) (taken : row ≡ slot_row m.state al.slot) where
-    row_is : row ≡ slot_row st at
-    row_is = taken ∙ ap (λ (x : Aim). slot_row st x.slot) aimed
+    -- the same of the front, the aim and the stripe that the code has
+    module _ (f : Front) (same : f ≡ front_of m.state) (al : Aim) (aimed : al ≡ aim_of p m.state) (row : Row) (taken : row ≡ slot_row m.state al.slot) where
+      row_is : row ≡ slot_row st at
+      row_is = taken ∙ ap (λ (x : Aim). slot_row st x.slot) aimed
 
-    -- what a block asks of the state with its segment open
-    pub sent_asks : (al.slot < 8) × (al.begins ≡ false → row.filled < data_count p) × (o.next < 4294967295)
-    sent_asks =
-        let s : at < 8 = slot_lt p st w.waits in
-        let x : (opened_by p st).next < 4294967295 = opened_next p st 4294967295 (omega (arith, w.next_high, (ranged p w.in_range_holds).stripes_high)) in (
-          subst (λ (x : Aim). x.slot < 8) (sym aimed) s,
-          λ e.
-              subst (λ (x : Row). x.filled < data_count p) (sym row_is)
-              (subst (λ (y : ℕ). y < data_count p) (sym (row_filled st at)) (slot_fills p st (ap (λ (x : Aim). x.begins) (sym aimed) ∙ e) s)),
-          omega (arith, h.next, x),
-        )
+      -- what a block asks of the state with its segment open
+      pub sent_asks : (al.slot < 8) × (al.begins ≡ false → row.filled < data_count p) × (o.next < 4294967295)
+      sent_asks =
+          let s : at < 8 = slot_lt p st w.waits in
+          let x : (opened_by p st).next < 4294967295 = opened_next p st 4294967295 (omega (arith, w.next_high, (ranged p w.in_range_holds).stripes_high)) in (
+            subst (λ (x : Aim). x.slot < 8) (sym aimed) s,
+            λ e.
+                subst (λ (x : Row). x.filled < data_count p) (sym row_is)
+                (subst (λ (y : ℕ). y < data_count p) (sym (row_filled st at)) (slot_fills p st (ap (λ (x : Aim). x.begins) (sym aimed) ∙ e) s)),
+            omega (arith, h.front.next, x),
+          )
 
-    pub sent_done : RowsSized st → o.cut ≡ false → (c : Change) (fl : List ℕ) → c ≡ copied_as f al o t (sent_row p row m.inflight al.slot al.begins o.next a t 0 b)
-        → fl ≡ (sent_row p row m.inflight al.slot al.begins o.next a t 0 b).inflight
-        → after_change st c k'.image k'.pointers m.addresses m.compact fl [] ≡ outcome p (store_disk p) n k m [] (due (sent_plan p (seen p off k) m a t b))
-    sent_done z q c fl e g =
-        (λ j. after_change st
-        ((e ∙ (λ x. copied_as (same x) (aimed x) o t (sent_row p (row_is x) m.inflight (aimed x).slot (aimed x).begins o.next a t 0 b))) j) k'.image k'.pointers m.addresses
-        m.compact
-        ((g ∙ (λ x. (sent_row p (row_is x) m.inflight (aimed x).slot (aimed x).begins o.next a t 0 b).inflight)) j) [])
-        ∙ copy_done z q
+      pub sent_done : RowsSized st → (c : Change) (fl : List ℕ) → c ≡ copied_as f al o t (sent_row p row m.inflight al.slot al.begins o.next a t 0 b)
+          → fl ≡ (sent_row p row m.inflight al.slot al.begins o.next a t 0 b).inflight
+          → after_change st c k'.image k'.pointers m.addresses m.compact fl [] ≡ outcome p (store_disk p) n k m [] (due (sent_plan p (seen p off k) m a t b))
+      sent_done z c fl e g =
+          (λ j. after_change st
+          ((e ∙ (λ x. copied_as (same x) (aimed x) o t (sent_row p (row_is x) m.inflight (aimed x).slot (aimed x).begins o.next a t 0 b))) j) k'.image k'.pointers m.addresses
+          m.compact
+          ((g ∙ (λ x. (sent_row p (row_is x) m.inflight (aimed x).slot (aimed x).begins o.next a t 0 b).inflight)) j) [])
+          ∙ copy_done z

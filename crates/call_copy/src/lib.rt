@@ -45,10 +45,9 @@ fn send_copy(
         (due (sent_plan p (view_of p offline.now image.old pointers.old)
         (mk_memory (state_of bytes.now) addresses.old compact.old inflight.old) address.0 stamp.0 block.now)) }
 {
-    let o = call_filling::open(p, image, pointers, offline, f, a, count);
-    if o.cut {
+    let Ok(o) = call_filling::open(p, image, pointers, offline, f, a, count) else {
         return call_filling::cut(addresses, compact, f);
-    }
+    };
     let row = mem_codec::row_at(bytes, a.slot);
     let w = call_filling::send(p, inflight, row, a, o.next, address, stamp, false, block);
     let last = w.row;

@@ -78,18 +78,25 @@ module _ (p : Params) (off : List ℕ) (k : Disk) (m : Memory) (a : ℕ) where
   unfolding empty_checks
   empty_lengths_fail e = sym (rule_fails 2 (not (lent_ok_of p off k m)) (rest 1) (ap not e))
 
-  pub empty_lengths_pass : lent_ok_of p off k m ≡ true → empty_first 2 ≡ empty_first 1
+  empty_lengths_pass : lent_ok_of p off k m ≡ true → empty_first 2 ≡ empty_first 1
   unfolding empty_checks
   empty_lengths_pass e = sym (rule_passes 2 (not (lent_ok_of p off k m)) (rest 1) (ap not e))
 
-  -- 02, item 4: r is what `list_rule` answers
-  pub empty_list_fails : (r : ℕ) → r ≡ list_rule_of p off → (r ≡ 0 → ⊥) → some (Refused r) ≡ empty_first 2
+  -- 02, item 4
+  pub empty_list_fails : (r : Answer) → some r ≡ list_rule_of p off → some r ≡ empty_first 2
   unfolding empty_checks view_of
-  empty_list_fails r e f = sym (list_fails p (seen p off k) (rest 3) r e f)
+  empty_list_fails r e = list_fails p (seen p off k) (rest 3) r e
 
-  pub empty_list_passes : (r : ℕ) → r ≡ list_rule_of p off → r ≡ 0 → empty_first 4 ≡ empty_first 2
+  empty_list_passes : none ≡ list_rule_of p off → empty_first 4 ≡ empty_first 2
   unfolding empty_checks view_of
-  empty_list_passes r e f = sym (list_passes p (seen p off k) (rest 3) r e f)
+  empty_list_passes e = sym (list_passes p (seen p off k) (rest 3) e)
+
+  -- 1 and 2 pass, and 10 and the narrow 1
+  pub empty_sized : in_range p ≡ true → lent_ok_of p off k m ≡ true → empty_first 2 ≡ empty_first 0
+  empty_sized e f = empty_lengths_pass f ∙ empty_range_passes e
+
+  pub empty_listed : in_range p ≡ true → lent_ok_of p off k m ≡ true → none ≡ list_rule_of p off → empty_first 4 ≡ empty_first 0
+  empty_listed e f g = empty_list_passes g ∙ empty_sized e f
 
   -- the last two of them
   pub empty_third : empty_third_holds m.state.missing p.L a ≡ empty_first 4

@@ -12,21 +12,21 @@ ghost use Rattle.spec.specs.declared.State.{State as StateOf};
 ghost use Rattle.mem_rows.specs.Rows.{after_change, kept_as};
 ghost use Rattle.call_empty.specs.Order.{empty_first, empty_third_holds};
 
-use mem_calls::Check;
+use mem_calls::Refusal;
 use mem_rows::{Change, Front};
 use spec::{Address, Answer, Params, State};
 
 // 01, Refusals, 3 and 4: a drive is missing; the address is out of range.
-fn later_checks(missing: u8, bound: u64, address: u64) -> Check
+fn later_checks(missing: u8, bound: u64, address: u64) -> Result<(), Refusal>
     ensures { checked result ≡ empty_third_holds missing bound address }
 {
     if missing != 0 {
-        return Check::Fail(Answer::Refused(3));
+        return Err(Refusal::Missing);
     }
     if bound <= address {
-        return Check::Fail(Answer::Refused(4));
+        return Err(Refusal::Address);
     }
-    Check::Pass
+    Ok(())
 }
 
 // 02, item 1: the checks that come before the filling stripe is looked for, in order.
@@ -40,21 +40,16 @@ fn checks(
     inflight: &[u8],
     missing: u8,
     address: Address,
-) -> Check
+) -> Result<(), Refusal>
     ensures { (st : StateOf) → st.missing ≡ missing
         → checked result ≡ empty_first p offline.now (mk_disk image.now pointers.now)
         (mk_memory st addresses.now compact.now inflight.now) address.0 0 }
 {
     if !disk_shape::in_range(p) {
-        return Check::Fail(Answer::Refused(1));
+        return Err(Refusal::Range);
     }
-    if !mem_calls::lent_ok(p, offline, image, pointers, addresses, compact, inflight) {
-        return Check::Fail(Answer::Refused(2));
-    }
-    let rule = mem_calls::list_rule(p, offline);
-    if rule != 0 {
-        return Check::Fail(Answer::Refused(rule));
-    }
+    mem_calls::lent_ok(p, offline, image, pointers, addresses, compact, inflight)?;
+    mem_calls::list_rule(p, offline)?;
     later_checks(missing, p.L as u64, address.0)
 }
 
@@ -86,7 +81,7 @@ pub fn end(
         (mk_memory state addresses.now compact.now inflight.old) (write address.0 [] n) }
 {
     let f = mem_rows::front_of(state);
-    let c = checks(
+    if let Err(why) = checks(
         p,
         offline,
         image,
@@ -96,9 +91,8 @@ pub fn end(
         inflight,
         state.missing,
         address,
-    );
-    if let Check::Fail(answer) = c {
-        return mem_rows::kept(answer, f);
+    ) {
+        return mem_rows::kept(Answer::from(why), f);
     }
     if call_filling::filling_slot(p, f) < 8 {
         return call_close::close(

@@ -1,5 +1,5 @@
 -- What the functions leave, put together as the definitions have it (01, Write). Assumes nothing.
-use Rattle.std.specs.Prelude.{ℕ, suc, ◌+◌, min, ◌≤◌, ◌<◌, leb, take, Bool, true, false, ◌≡◌, refl}
+use Rattle.std.specs.Prelude.{Result, Ok, Err, IfOk, ℕ, suc, ◌+◌, min, ◌≤◌, ◌<◌, leb, take, Bool, true, false, ◌≡◌, refl}
 use Rattle.spec.specs.Drives.{View, view_of, Store, Disk, pointer_of, store_disk, store_all, zone_on, empty_count, new_seg, header_stores}
 use Rattle.spec.specs.Counts.{a_serial}
 use Rattle.spec.specs.Memory.{filled_in_of, is_free, is_full, is_filling, has_filling, set_open}
@@ -16,8 +16,11 @@ use Rattle.law_basic.specs.Stores.{stores_nil}
 use Rattle.mem_rows.specs.Rows.{front_of, behind}
 use Rattle.law_views.specs.Views.{seen}
 use Rattle.disk_zones.specs.Empty.{new_free}
-use Rattle.disk_zones.specs.Made.{made_of, Storing}
-use Rattle.disk_zones.specs.declared.Made.{Made}
+use Rattle.disk_zones.specs.Made.{too_few, Storing, storing_done, storing_cut}
+use Rattle.disk_zones.specs.declared.TooFew.{TooFew}
+use Rattle.std.specs.Result.{is_err}
+use Rattle.std.proofs.lemmas.Result.{IfOk-weaker}
+use borrow.Author.Tests.{lt-ltb}
 use Rattle.std.proofs.Common.{le-ltb, le-leb, ap₂, ◌∙◌, arith}
 use Rattle.std.proofs.lemmas.Bool.{lt-leb}
 use Rattle.std.proofs.Math.Dec.{ltb}
@@ -32,14 +35,18 @@ use Rattle.spec.specs.declared.Seg.{Seg}
 abbrev pub open_stores : Params → List ℕ → Disk → State → List Store
 open_stores p off k st = cond (opens p st) (header_stores p (new_seg p (seen p off k)) (suc st.serial.0) 0) []
 
+-- the numbers in front with the segment open
+pub record OpenedAs (p : Params) (st : State) (o : Opened) : Type 0 where
+  pub serial : o.serial.0 ≡ (opened_by p st).serial.0
+  pub opened : o.opened ≡ (opened_by p st).opened
+  pub next : o.next ≡ (opened_by p st).next
+
 -- 01, Write; Store count: the first n of the headers' stores are made on the bytes k, which are then k'; r says whether more were due, and
 -- has the numbers in front with the segment open if not
-pub record OpeningStores (p : Params) (off : List ℕ) (st : State) (n : ℕ) (k : Disk) (r : Opened) (k' : Disk) : Type 0 where
-  pub cut : r.cut ≡ ltb n (length (open_stores p off k st))
+pub record OpeningStores (p : Params) (off : List ℕ) (st : State) (n : ℕ) (k : Disk) (r : Result Opened TooFew) (k' : Disk) : Type 0 where
+  pub cut : is_err r ≡ ltb n (length (open_stores p off k st))
   pub disk : k' ≡ store_all (store_disk p) (take n (open_stores p off k st)) k
-  pub serial : r.serial.0 ≡ (opened_by p st).serial.0
-  pub opened : r.opened ≡ (opened_by p st).opened
-  pub next : r.next ≡ (opened_by p st).next
+  pub front : IfOk r (OpenedAs p st)
 
 -- a data position filled
 abbrev pub placed_by : Put → List ℕ → PlacedRow
@@ -52,12 +59,12 @@ taken_by r fl = record { row = r.row; next = r.next; inflight = fl; drive = r.dr
 -- ---- the ends of an opening
 
 -- the numbers in front
-abbrev opened_as : Bool → ℕ → ℕ → ℕ → Opened
-opened_as c s o n = record { cut = c; serial = a_serial s; opened = o; next = n }
+abbrev opened_as : ℕ → ℕ → ℕ → Opened
+opened_as s o n = record { serial = a_serial s; opened = o; next = n }
 
 module _ (p : Params) (off : List ℕ) (st : State) (n : ℕ) (k : Disk) where
   -- none is due
-  pub opening_none : opens p st ≡ false → OpeningStores p off st n k (opened_as false st.serial.0 st.opened st.next) k
+  pub opening_none : opens p st ≡ false → OpeningStores p off st n k (Ok (opened_as st.serial.0 st.opened st.next)) k
   unfolding opened_by
   opening_none e =
       let hs = header_stores p (new_seg p (seen p off k)) (suc st.serial.0) 0 in
@@ -66,9 +73,7 @@ module _ (p : Params) (off : List ℕ) (st : State) (n : ℕ) (k : Disk) where
       record {
         cut = sym (le-ltb n (length (open_stores p off k st)) (omega (arith, ap length q)));
         disk = sym (ap (λ (x : List Store). store_all (store_disk p) (take n x) k) q ∙ stores_nil (store_disk p) n k);
-        serial = ap (λ (x : State). x.serial.0) o;
-        opened = ap (λ (x : State). x.opened) o;
-        next = ap (λ (x : State). x.next) o;
+        front = record { serial = ap (λ (x : State). x.serial.0) o; opened = ap (λ (x : State). x.opened) o; next = ap (λ (x : State). x.next) o };
       }
 
   module _ (e : opens p st ≡ true) (g : Seg) (s : ℕ) (newest : g ≡ new_seg p (seen p off k)) (next : s ≡ suc st.serial.0) where
@@ -77,35 +82,39 @@ module _ (p : Params) (off : List ℕ) (st : State) (n : ℕ) (k : Disk) where
         ap₂ (λ (x : Seg) (y : ℕ). header_stores p x y 0) newest next
         ∙ ap (λ (x : Bool). cond x (header_stores p (new_seg p (seen p off k)) (suc st.serial.0) 0) []) (sym e)
 
-    -- made, or cut
-    pub opening_made : (r : Made) (k' : Disk) → Storing p n (header_stores p g s 0) k r k' → OpeningStores p off st n k (opened_as r.cut s s 0) k'
-    unfolding made_of opened_by set_open
-    opening_made r k' h =
+    -- cut
+    pub opening_cut : (k' : Disk) → Storing p n (header_stores p g s 0) k too_few k' → OpeningStores p off st n k (Err (record {})) k'
+    opening_cut k' h = record {
+      cut = sym (lt-ltb n (length (open_stores p off k st)) (omega (arith, storing_cut p n (header_stores p g s 0) k k' h, ap length stores_are)));
+      disk = h.disk ∙ ap (λ (x : List Store). store_all (store_disk p) (take n x) k) stores_are;
+      front = tt;
+    }
+
+    -- made
+    pub opening_made : (l : ℕ) (k' : Disk) → Storing p n (header_stores p g s 0) k (Ok l) k' → OpeningStores p off st n k (Ok (opened_as s s 0)) k'
+    unfolding opened_by set_open
+    opening_made l k' h =
         let o : set_open st s ≡ opened_by p st = ap (set_open st) next ∙ ap (λ (x : Bool). cond x (set_open st (suc st.serial.0)) st) (sym e) in
         record {
-          cut = ap (λ (x : Made). x.cut) h.made ∙ ap (λ (x : List Store). ltb n (length x)) stores_are;
+          cut = sym (le-ltb n (length (open_stores p off k st)) (omega (arith, storing_done p n (header_stores p g s 0) k l k' h, ap length stores_are)));
           disk = h.disk ∙ ap (λ (x : List Store). store_all (store_disk p) (take n x) k) stores_are;
-          serial = ap (λ (x : State). x.serial.0) o;
-          opened = ap (λ (x : State). x.opened) o;
-          next = ap (λ (x : State). x.next) o;
+          front = record { serial = ap (λ (x : State). x.serial.0) o; opened = ap (λ (x : State). x.opened) o; next = ap (λ (x : State). x.next) o };
         }
 
 -- an opening asked of the front is one of the state
-pub opening_front : (p : Params) (off : List ℕ) (st : State) (n : ℕ) (k : Disk) (r : Opened) (k' : Disk) → OpeningStores p off (behind (front_of st)) n k r k'
-    → OpeningStores p off st n k r k'
+opened_front : (p : Params) (st : State) (o : Opened) → OpenedAs p (behind (front_of st)) o → OpenedAs p st o
 unfolding opened_by set_open opens must_open has_filling is_filling is_free is_full filled_in_of
-opening_front p off st n k r k' h = record {
-  cut = h.cut;
-  disk = h.disk;
-  serial = h.serial ∙ (same (opens p st)).0;
-  opened = h.opened ∙ (same (opens p st)).1;
-  next = h.next ∙ (same (opens p st)).2;
-}
+opened_front p st o h = record { serial = h.serial ∙ (same (opens p st)).0; opened = h.opened ∙ (same (opens p st)).1; next = h.next ∙ (same (opens p st)).2 }
   where
     same : (b : Bool) → let x = cond b (set_open (behind (front_of st)) (suc st.serial.0)) (behind (front_of st)) in let y = cond b (set_open st (suc st.serial.0)) st in
         (x.serial.0 ≡ y.serial.0) × (x.opened ≡ y.opened) × (x.next ≡ y.next)
     same true = (refl, refl, refl)
     same false = (refl, refl, refl)
+
+pub opening_front : (p : Params) (off : List ℕ) (st : State) (n : ℕ) (k : Disk) (r : Result Opened TooFew) (k' : Disk) → OpeningStores p off (behind (front_of st)) n k r k'
+    → OpeningStores p off st n k r k'
+unfolding opens must_open has_filling is_filling is_free is_full filled_in_of
+opening_front p off st n k r k' h = record { cut = h.cut; disk = h.disk; front = IfOk-weaker r (OpenedAs p (behind (front_of st))) (OpenedAs p st) (opened_front p st) h.front }
 
 -- 01, Refusals, 8: a count that stops at n + 1
 pub scarce-count : (p : Params) (v : View) (n : ℕ) → leb (min (n + 1) (empty_count p v)) n ≡ scarce p v n

@@ -17,20 +17,9 @@ ghost use Rattle.call_filling.specs.Left.{OpeningStores, placed_by, taken_by};
 ghost use Rattle.mem_rows.specs.Rows.{behind, kept_as};
 ghost use Rattle.law_views.specs.Views.{Whole};
 
+use disk_zones::TooFew;
 use mem_rows::{Change, Front, Row};
 use spec::{Address, Answer, Params, Serial, Stamp};
-
-fn whole(n: u32) -> usize
-    ensures { result ≡ n }
-{
-    n as usize
-}
-
-fn wide(b: u8) -> usize
-    ensures { (result ≡ b) × (result < 256) }
-{
-    b as usize
-}
 
 // ---- the stripe that takes a block
 
@@ -38,15 +27,7 @@ fn wide(b: u8) -> usize
 fn has_room(p: Params, k: u8) -> bool
     ensures { result ≡ not (leb (data_count p) k) }
 {
-    wide(k) + 1 < p.N
-}
-
-fn is_free(f: Front, i: usize) -> bool
-    requires { i < 8 }
-    ensures { result ≡ is_free (behind f) i }
-{
-    let filled = f.filled;
-    filled[i] == 0
+    k as usize + 1 < p.N
 }
 
 // Some data positions are filled, and not all.
@@ -54,23 +35,17 @@ fn is_filling(p: Params, f: Front, i: usize) -> bool
     requires { i < 8 }
     ensures { result ≡ is_filling p (behind f) i }
 {
-    if is_free(f, i) {
-        return false;
-    }
-    let filled = f.filled;
-    has_room(p, filled[i])
+    !mem_rows::is_free(f.filled, i) & has_room(p, f.filled[i])
 }
 
 // The filling stripe's eighth; 8 if there is none.
 pub fn filling_slot(p: Params, f: Front) -> usize
     ensures { result ≡ filling_slot p (behind f) }
 {
-    let mut i = 0;
-    while i < 8 {
+    for i in 0..8 {
         if is_filling(p, f, i) {
             return i;
         }
-        i += 1;
     }
     8
 }
@@ -79,25 +54,20 @@ pub fn filling_slot(p: Params, f: Front) -> usize
 fn free_slot(f: Front) -> usize
     ensures { result ≡ free_slot (behind f) }
 {
-    let mut i = 0;
-    while i < 8 {
-        if is_free(f, i) {
+    for i in 0..8 {
+        if mem_rows::is_free(f.filled, i) {
             return i;
         }
-        i += 1;
     }
     8
 }
 
 // A stripe that begins now needs a new segment.
+#[tactic(auto, unfolding(spec::specs::Write::must_open))]
 fn must_open(p: Params, f: Front) -> bool
     ensures { result ≡ must_open p (behind f) }
 {
-    if f.opened == 0 {
-        return true;
-    }
-    let next = whole(f.next);
-    next == p.S
+    (f.opened == 0) | (f.next as usize == p.S)
 }
 
 // Where a block goes: whether a stripe begins, whether a segment is opened for it, and the eighth that takes it.
@@ -119,12 +89,10 @@ pub fn aim_of(p: Params, f: Front) -> Aim
             slot: i,
         };
     }
-    let opens = must_open(p, f);
-    let slot = free_slot(f);
     Aim {
         begins: true,
-        opens,
-        slot,
+        opens: must_open(p, f),
+        slot: free_slot(f),
     }
 }
 
@@ -134,34 +102,21 @@ pub fn aim_of(p: Params, f: Front) -> Aim
 pub fn no_stamp(f: Front) -> bool
     ensures { result ≡ no_stamp (behind f) }
 {
-    let last = Stamp::LAST;
-    f.stamp.0 == last.0
+    f.stamp.0 == Stamp::LAST.0
 }
 
 // 01, Refusals, 6: no next serial where a segment must be opened.
 pub fn no_serial(f: Front, a: Aim) -> bool
     ensures { result ≡ (a.opens && eqb f.serial.0 last_count) }
 {
-    if !a.opens {
-        return false;
-    }
-    let last = Serial::LAST;
-    f.serial.0 == last.0
+    a.opens & (f.serial.0 == Serial::LAST.0)
 }
 
 // How many stripes are in flight.
 fn in_flight(f: Front) -> usize
     ensures { result ≡ length (in_flight (behind f)) }
 {
-    let mut n = 0;
-    let mut i = 0;
-    while i < 8 {
-        if !is_free(f, i) {
-            n += 1;
-        }
-        i += 1;
-    }
-    n
+    mem_rows::in_flight(f.filled)
 }
 
 // The stripe of eighth i is in flight, and of another group than the next one.
@@ -170,15 +125,10 @@ fn is_elsewhere(p: Params, f: Front, i: usize) -> bool
     requires i_bound { i < 8 }
     ensures { result ≡ (not (is_free (behind f) i) && other_group p (behind f) i) }
 {
-    if is_free(f, i) {
+    if mem_rows::is_free(f.filled, i) {
         return false;
     }
-    let numbers = f.numbers;
-    let s = whole(numbers[i]);
-    let next = whole(f.next);
-    let a = disk_shape::group(p, s);
-    let b = disk_shape::group(p, next);
-    a != b
+    disk_shape::group(p, f.numbers[i] as usize) != disk_shape::group(p, f.next as usize)
 }
 
 // Some stripe in flight is of another group than the next one.
@@ -186,12 +136,10 @@ fn any_elsewhere(p: Params, f: Front) -> bool
     requires { in_range p ≡ true }
     ensures { result ≡ any (other_group p (behind f)) (in_flight (behind f)) }
 {
-    let mut i = 0;
-    while i < 8 {
+    for i in 0..8 {
         if is_elsewhere(p, f, i) {
             return true;
         }
-        i += 1;
     }
     false
 }
@@ -227,10 +175,9 @@ pub fn scarce(p: Params, pointers: &[u8], offline: &[u8], n: usize) -> bool
 
 // ---- a segment opened
 
-// Whether the store count was too small, and the numbers in front with the segment open.
+// The numbers in front with the segment open.
 #[derive(Clone, Copy)]
 pub struct Opened {
-    pub cut: bool,
     pub serial: Serial,
     pub opened: u64,
     pub next: u32,
@@ -245,7 +192,7 @@ pub fn open(
     f: Front,
     a: Aim,
     count: u64,
-) -> Opened
+) -> Result<Opened, TooFew>
     requires p_value { in_range p ≡ true }
     requires whole { Whole p (mk_disk image.old pointers.old) × (length offline.now ≡ offline_len p) }
     requires opens_value { a.opens ≡ opens p (behind f) }
@@ -256,22 +203,20 @@ pub fn open(
 {
     let old = f.serial;
     if !a.opens {
-        return Opened {
-            cut: false,
+        return Ok(Opened {
             serial: old,
             opened: f.opened,
             next: f.next,
-        };
+        });
     }
     let g = disk_zones::new_segment(p, pointers, offline);
     let serial = Serial(old.0 + 1);
-    let made = disk_zones::header_stores(p, image, pointers, g, serial, Serial(0), count);
-    Opened {
-        cut: made.cut,
+    disk_zones::header_stores(p, image, pointers, g, serial, Serial(0), count)?;
+    Ok(Opened {
         serial,
         opened: serial.0,
         next: 0,
-    }
+    })
 }
 
 // 01, Store count: the tables are all zeros, other buffers as they came.
@@ -302,7 +247,7 @@ fn added(row: Row, address: Address, stamp: Stamp, write: bool) -> Row
     ensures { result ≡ added_row row address.0 stamp.0 (cond write 1 0) }
 {
     let f = row.filled;
-    let k = wide(f);
+    let k = f as usize;
     let w = with_write(row.writes, k, write);
     let mut next = row;
     next.filled = f + 1;
@@ -329,8 +274,7 @@ pub fn enter(
 {
     let next = added(row, address, stamp, write);
     if !has_room(p, next.filled) {
-        let s = whole(row.number);
-        disk_code::slot_parity(p, inflight, i, s);
+        disk_code::slot_parity(p, inflight, i, row.number as usize);
     }
     next
 }
@@ -341,9 +285,7 @@ pub fn next_drive(p: Params, row: Row) -> usize
     requires filled_bound { row.filled < data_count p }
     ensures { (result ≡ drive_for p row) × (result < p.N) }
 {
-    let s = whole(row.number);
-    let k = wide(row.filled);
-    disk_shape::data_drive(p, s, k)
+    disk_shape::data_drive(p, row.number as usize, row.filled as usize)
 }
 
 // What filling a data position gives beside the in-flight buffer.

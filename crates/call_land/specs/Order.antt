@@ -17,7 +17,7 @@ use Rattle.spec.specs.Drives.{View, view_of, Disk, zone_on}
 use Rattle.spec.specs.Engine.{lent_ok_of}
 use Rattle.spec.specs.Landing.{slot_of, ready, waiting, completes, seals, misplaced, overfull, entry_faults, land_faults, land_checks}
 use Rattle.spec.specs.Lists.{Opt, is_nil, cons_if, flat, least}
-use Rattle.spec.specs.Lists.Opt.{some}
+use Rattle.spec.specs.Lists.Opt.{none, some}
 use Rattle.spec.specs.Memory.{Memory, slot_count, filled_in_of, entries_in, state_ok}
 use Rattle.spec.specs.Segments.{open_segments, open_segment}
 use Rattle.spec.specs.Layout.{Rec}
@@ -150,18 +150,25 @@ module _ (p : Params) (off : List ℕ) (k : Disk) (m : Memory) (d s : ℕ) where
   unfolding land_checks
   land_lengths_fail e = sym (rule_fails 2 (not (lent_ok_of p off k m)) (rest 1) (ap not e))
 
-  pub land_lengths_pass : lent_ok_of p off k m ≡ true → land_from 2 ≡ land_from 1
+  land_lengths_pass : lent_ok_of p off k m ≡ true → land_from 2 ≡ land_from 1
   unfolding land_checks
   land_lengths_pass e = sym (rule_passes 2 (not (lent_ok_of p off k m)) (rest 1) (ap not e))
 
-  -- 02, item 4: r is what `list_rule` answers
-  pub land_list_fails : (r : ℕ) → r ≡ list_rule_of p off → (r ≡ 0 → ⊥) → some (Refused r) ≡ land_from 2
+  -- 02, item 4
+  pub land_list_fails : (r : Answer) → some r ≡ list_rule_of p off → some r ≡ land_from 2
   unfolding land_checks view_of
-  land_list_fails r e f = sym (list_fails p (seen p off k) (rest 3) r e f)
+  land_list_fails r e = list_fails p (seen p off k) (rest 3) r e
 
-  pub land_list_passes : (r : ℕ) → r ≡ list_rule_of p off → r ≡ 0 → land_from 4 ≡ land_from 2
+  pub land_list_passes : none ≡ list_rule_of p off → land_from 4 ≡ land_from 2
   unfolding land_checks view_of
-  land_list_passes r e f = sym (list_passes p (seen p off k) (rest 3) r e f)
+  land_list_passes e = sym (list_passes p (seen p off k) (rest 3) e)
+
+  -- 1 and 2 pass, and 10 and the narrow 1
+  pub land_lent : in_range p ≡ true → lent_ok_of p off k m ≡ true → land_from 2 ≡ land_from 0
+  land_lent e f = land_lengths_pass f ∙ land_range_passes e
+
+  pub land_listed : in_range p ≡ true → lent_ok_of p off k m ≡ true → none ≡ list_rule_of p off → land_from 4 ≡ land_from 0
+  land_listed e f g = land_list_passes g ∙ land_lent e f
 
   pub land_missing_fails : (m.state.missing ≡ 0 → ⊥) → some (Refused 3) ≡ land_from 4
   unfolding land_checks

@@ -1,5 +1,5 @@
 -- What a landing stores and leaves, where its stripe completes and where it doesn't (01, Landing). Assumes nothing.
-use Rattle.std.specs.Prelude.{◌≡◌, Bool, true, ◌&&◌, ℕ, ◌+◌, ◌-◌, ◌≤◌, ◌<◌, length, take, set, replicate}
+use Rattle.std.specs.Prelude.{Result, Ok, ◌≡◌, Bool, true, ◌&&◌, ℕ, ◌+◌, ◌-◌, ◌≤◌, ◌<◌, length, take, set, replicate}
 use Rattle.std.proofs.Math.Path.{refl, ap}
 use Rattle.std.proofs.Common.{sym, ◌∙◌, subst, arith}
 use mathlib.Core.List.{List, [], ◌∷◌}
@@ -22,8 +22,9 @@ use Rattle.call_land_table.specs.Winners.{EntriesSane}
 use Rattle.law_basic.specs.Ranges.{and_left}
 use Rattle.law_basic.specs.Segs.{ZonesLow}
 use Rattle.law_views.specs.Views.{Whole, seen}
-use Rattle.disk_zones.specs.declared.Made.{Made}
-use Rattle.disk_zones.specs.Made.{Storing, storing_cut, storing_done, storing_none}
+use Rattle.disk_zones.specs.declared.TooFew.{TooFew}
+use Rattle.std.specs.Result.{is_err}
+use Rattle.disk_zones.specs.Made.{Storing, storing_short, storing_enough, storing_none}
 use Rattle.mem_rows.specs.declared.Row.{Row}
 use Rattle.mem_rows.specs.Rows.{slot_row}
 use Rattle.call_land_chunk.specs.Alone.{alone, row_completes}
@@ -89,21 +90,22 @@ pub record Completing (p : Params) (off : List ℕ) (n : ℕ) (r : Row) (g : Seg
   pub done : length (seals_of p off k g b) ≤ n → (a ≡ Landed (writes_in (alone r) 0)) × (tb' ≡ table_of p (seen p off k) g (alone r) 0 tb) × (co' ≡ co)
   pub cut : n < length (seals_of p off k g b) → (a ≡ Cut) × (tb' ≡ replicate (length tb) 0) × (co' ≡ replicate (length co) 0)
 
-module _ (p : Params) (off : List ℕ) (n : ℕ) (w : Row) (g : Seg) (b : Bool) (k : Disk) (tb co : List ℕ) (a : Made) (k' : Disk) (h : Storing p n (seals_of p off k g b) k a k') (r : Answer)
+module _ (p : Params) (off : List ℕ) (n : ℕ) (w : Row) (g : Seg) (b : Bool) (k : Disk) (tb co : List ℕ) (a : Result ℕ TooFew) (k' : Disk)
+    (h : Storing p n (seals_of p off k g b) k a k') (r : Answer)
     (tb' co' : List ℕ) where
-  pub completing_cut : a.cut ≡ true → r ≡ Cut → tb' ≡ replicate (length tb) 0 → co' ≡ replicate (length co) 0 → Completing p off n w g b k tb co r k' tb' co'
+  pub completing_cut : is_err a ≡ true → r ≡ Cut → tb' ≡ replicate (length tb) 0 → co' ≡ replicate (length co) 0 → Completing p off n w g b k tb co r k' tb' co'
   completing_cut c e f q = record {
     disk = h.disk;
-    done = λ l. absurd (let m = storing_cut p n (seals_of p off k g b) k a k' h c in let w : ⊥ = omega arith in w);
+    done = λ l. absurd (let m = storing_short p n (seals_of p off k g b) k a k' h c in let w : ⊥ = omega arith in w);
     cut = λ l. (e, f, q);
   }
 
-  pub completing_done : a.cut ≡ false → r ≡ Landed (writes_in (alone w) 0) → tb' ≡ table_of p (seen p off k) g (alone w) 0 tb → co' ≡ co
+  pub completing_done : is_err a ≡ false → r ≡ Landed (writes_in (alone w) 0) → tb' ≡ table_of p (seen p off k) g (alone w) 0 tb → co' ≡ co
       → Completing p off n w g b k tb co r k' tb' co'
   completing_done c e f q = record {
     disk = h.disk;
     done = λ l. (e, f, q);
-    cut = λ l. absurd (let m = storing_done p n (seals_of p off k g b) k a k' h c in let w : ⊥ = omega arith in w);
+    cut = λ l. absurd (let m = storing_enough p n (seals_of p off k g b) k a k' h c in let w : ⊥ = omega arith in w);
   }
 
 -- the same of the same
@@ -118,12 +120,12 @@ completing_same p off n tb a k' tb' co' {r} {r'} {g} {g'} {b} {b'} {k} {k₁} {c
     (subst (λ (x : List ℕ). Completing p off n r g b k tb x a k' tb' co') ec h))))
 
 -- no footers are due
-pub seals_none : (p : Params) (off : List ℕ) (n : ℕ) (g : Seg) (b : Bool) (k : Disk) → b ≡ false → Storing p n (seals_of p off k g b) k (record { left = n; cut = false }) k
+pub seals_none : (p : Params) (off : List ℕ) (n : ℕ) (g : Seg) (b : Bool) (k : Disk) → b ≡ false → Storing p n (seals_of p off k g b) k (Ok n) k
 seals_none p off n g b k e =
-    subst (λ (x : List Store). Storing p n x k (record { left = n; cut = false }) k) (sym (ap (λ (x : Bool). cond x (seal_stores p (seen p off k) g) []) e)) (storing_none p n k)
+    subst (λ (x : List Store). Storing p n x k (Ok n) k) (sym (ap (λ (x : Bool). cond x (seal_stores p (seen p off k) g) []) e)) (storing_none p n k)
 
 -- they are
-pub seals_some : (p : Params) (off : List ℕ) (n : ℕ) (g : Seg) (b : Bool) (k : Disk) (a : Made) (k' : Disk) → b ≡ true → Storing p n (seal_stores p (seen p off k) g) k a k'
+pub seals_some : (p : Params) (off : List ℕ) (n : ℕ) (g : Seg) (b : Bool) (k : Disk) (a : Result ℕ TooFew) (k' : Disk) → b ≡ true → Storing p n (seal_stores p (seen p off k) g) k a k'
     → Storing p n (seals_of p off k g b) k a k'
 seals_some p off n g b k a k' e h =
     subst (λ (x : List Store). Storing p n x k a k') (sym (ap (λ (x : Bool). cond x (seal_stores p (seen p off k) g) []) e)) h

@@ -1,7 +1,7 @@
 // The landing call (01, Landing).
 #![tactic(auto)]
 
-ghost use Rattle.std.specs.Prelude.{◌≡◌, true, List, [], ◌∷◌, ℕ, ◌+◌, ◌-◌, ◌≤◌, ◌<◌, eqb, length, set, replicate};
+ghost use Rattle.std.specs.Prelude.{◌≡◌, true, List, [], ◌∷◌, ℕ, ◌+◌, ◌-◌, ◌≤◌, ◌<◌, eqb, length, set, replicate, IfOk};
 ghost use Rattle.mem_calls.specs.Left.{checked};
 ghost use Rattle.spec.specs.Calls.{first_refusal};
 ghost use Rattle.spec.specs.Calls.Check.{zones};
@@ -13,7 +13,6 @@ ghost use Rattle.spec.specs.Engine.{call_disk};
 ghost use Rattle.spec.specs.Engine.Call.{land};
 ghost use Rattle.spec.specs.Landing.{flight_rec, land_faults};
 ghost use Rattle.spec.specs.Layout.{compact_entry, record_bytes};
-ghost use Rattle.spec.specs.Lists.Opt.{none, some};
 ghost use Rattle.spec.specs.Memory.{Memory, mk_memory, state_len, state_of, filled_in_of, offset_in, compact_at, slot_block};
 ghost use Rattle.spec.specs.Params.{in_range, data_count, footers, capacity, offline_len, addresses_len, compact_len, inflight_len};
 ghost use Rattle.spec.specs.Lists.{is_nil};
@@ -27,10 +26,12 @@ ghost use Rattle.mem_rows.specs.Rows.{after_change};
 ghost use Rattle.law_basic.specs.Segs.{ZonesLow};
 ghost use Rattle.law_views.specs.Views.{Whole};
 ghost use Rattle.call_land_chunk.specs.Alone.{alone, mark_row};
+ghost use Rattle.disk_drives.specs.Viewed.{viewed};
 ghost use Rattle.disk_zones.specs.Made.{Storing};
 
-use disk_zones::Made;
-use mem_calls::Check;
+use disk_drives::Drives;
+use disk_zones::TooFew;
+use mem_calls::Refusal;
 use mem_rows::{Change, Front, Row};
 use spec::{Answer, Params, Seg, Serial, State};
 
@@ -50,13 +51,6 @@ pub struct Look {
 pub struct Target {
     pub zone: usize,
     pub segment: Seg,
-}
-
-// What the checks of a landing come to: the first refusal, if there is one; else the open segment.
-#[derive(Clone, Copy)]
-pub struct Sight {
-    pub check: Check,
-    pub target: Target,
 }
 
 // An eighth as it is, 0 for none.
@@ -88,114 +82,77 @@ fn look_at(p: Params, state: State, bytes: &[u8], drive: usize, stripe: usize) -
 }
 
 // 02, item 4: looks up the open segment by its serial with its zones on all drives; the headers of each drive are looked at once.
-fn open_whole(
-    p: Params,
-    image: &[u8],
-    pointers: &[u8],
-    offline: &[u8],
-    drive: usize,
-    opened: u64,
-) -> Target
-    requires p_value { in_range p ≡ true }
-    requires whole { Whole p (mk_disk image.now pointers.now) × (length offline.now ≡ offline_len p) × (drive < p.N) }
+fn open_whole(drives: &Drives<'_>, drive: usize, opened: u64) -> Target
+    requires drive_lt_n { drive < drives.now.p.N }
     ensures st_value { (st : StateOf)
         → st.opened ≡ opened
-        → is_nil (open_segments p (view_of p offline.now image.now pointers.now) st) ≡ eqb result.zone p.Z }
+        → is_nil (open_segments drives.now.p (viewed drives.now) st) ≡ eqb result.zone drives.now.p.Z }
     ensures target_at { (st : StateOf)
         → st.opened ≡ opened
-        → (result.zone ≡ p.Z → ⊥)
-        → TargetAt p (view_of p offline.now image.now pointers.now) st drive true result }
-    ensures zone_le_z { result.zone ≤ p.Z }
+        → (result.zone ≡ drives.now.p.Z → ⊥)
+        → TargetAt drives.now.p (viewed drives.now) st drive true result }
+    ensures zone_le_z { result.zone ≤ drives.now.p.Z }
 {
-    let first = disk_holders::open_zone(p, image, pointers, offline, 0, Serial(opened));
-    if first == p.Z {
+    let first = disk_holders::open_zone(drives, 0, Serial(opened));
+    if first == drives.p.Z {
         return Target {
             zone: first,
             segment: Seg { zones: [0u32; 8] },
         };
     }
-    let segment = disk_holders::open_segment(p, image, pointers, offline, first, Serial(opened));
-    let zone = disk_shape::zone_on(p, segment, drive);
+    let segment = disk_holders::open_segment(drives, first, Serial(opened));
+    let zone = disk_shape::zone_on(drives.p, segment, drive);
     Target { zone, segment }
 }
 
 // 02, item 4: looks up the open segment by its serial. Its zones on the other drives are looked for only where the stripe completes.
-fn open_at(
-    p: Params,
-    image: &[u8],
-    pointers: &[u8],
-    offline: &[u8],
-    drive: usize,
-    opened: u64,
-    done: bool,
-) -> Target
-    requires p_value { in_range p ≡ true }
-    requires whole { Whole p (mk_disk image.now pointers.now) × (length offline.now ≡ offline_len p) × (drive < p.N) }
+fn open_at(drives: &Drives<'_>, drive: usize, opened: u64, done: bool) -> Target
+    requires drive_lt_n { drive < drives.now.p.N }
     ensures st_value { (st : StateOf)
         → st.opened ≡ opened
-        → is_nil (open_segments p (view_of p offline.now image.now pointers.now) st) ≡ eqb result.zone p.Z }
+        → is_nil (open_segments drives.now.p (viewed drives.now) st) ≡ eqb result.zone drives.now.p.Z }
     ensures target_at { (st : StateOf)
         → st.opened ≡ opened
-        → (result.zone ≡ p.Z → ⊥)
-        → TargetAt p (view_of p offline.now image.now pointers.now) st drive done result }
-    ensures zone_le_z { result.zone ≤ p.Z }
+        → (result.zone ≡ drives.now.p.Z → ⊥)
+        → TargetAt drives.now.p (viewed drives.now) st drive done result }
+    ensures zone_le_z { result.zone ≤ drives.now.p.Z }
 {
     if done {
-        return open_whole(p, image, pointers, offline, drive, opened);
+        return open_whole(drives, drive, opened);
     }
-    let zone = disk_holders::open_zone(p, image, pointers, offline, drive, Serial(opened));
+    let zone = disk_holders::open_zone(drives, drive, Serial(opened));
     Target {
         zone,
         segment: Seg { zones: [0u32; 8] },
     }
 }
 
-// A refusal.
-fn refused(answer: Answer) -> Sight
-    ensures { checked result.check ≡ some answer }
-{
-    let segment = Seg { zones: [0u32; 8] };
-    let target = Target { zone: 0, segment };
-    Sight {
-        check: Check::Fail(answer),
-        target,
-    }
-}
-
 // 01, Refusals, 9, behind the ranges of the state; 02, item 4: outside them too where no remaining segment has its open serial.
 fn zone_checks(
-    p: Params,
-    image: &[u8],
-    pointers: &[u8],
-    offline: &[u8],
+    drives: &Drives<'_>,
     addresses: &[u8],
     opened: u64,
     seen: Look,
     drive: usize,
     stripe: usize,
-) -> Sight
-    requires p_value { in_range p ≡ true }
-    requires whole { Whole p (mk_disk image.now pointers.now) × (length offline.now ≡ offline_len p) × (length addresses.now ≡ addresses_len p) }
-    requires drive_lt_n { (drive < p.N) × ((m : Memory) × LookedAt p m addresses.now opened drive stripe seen) }
+) -> Result<Target, Refusal>
+    requires addresses_len { length addresses.now ≡ addresses_len drives.now.p }
+    requires drive_lt_n { (drive < drives.now.p.N) × ((m : Memory) × LookedAt drives.now.p m addresses.now opened drive stripe seen) }
     ensures check_value { (m : Memory)
-        → LookedAt p m addresses.now opened drive stripe seen
-        → checked result.check ≡ first_refusal (zones (land_faults p (view_of p offline.now image.now pointers.now) m drive stripe) ∷ []) }
+        → LookedAt drives.now.p m addresses.now opened drive stripe seen
+        → checked result ≡ first_refusal (zones (land_faults drives.now.p (viewed drives.now) m drive stripe) ∷ []) }
     ensures target_at { (m : Memory)
-        → LookedAt p m addresses.now opened drive stripe seen
-        → checked result.check ≡ none
-        → TargetAt p (view_of p offline.now image.now pointers.now) m.state drive seen.done result.target }
+        → LookedAt drives.now.p m addresses.now opened drive stripe seen
+        → IfOk result (λ t. TargetAt drives.now.p (viewed drives.now) m.state drive seen.done t) }
 {
-    let target = open_at(p, image, pointers, offline, drive, opened, seen.done);
-    if target.zone == p.Z {
-        return refused(Answer::BadZone(0));
+    let target = open_at(drives, drive, opened, seen.done);
+    if target.zone == drives.p.Z {
+        return Err(Refusal::BadZone(0));
     }
     let row = seen.row;
     let segment = target.segment;
     let z = call_land_faults::land_fault(
-        p,
-        image,
-        pointers,
-        offline,
+        drives,
         addresses,
         row,
         drive,
@@ -205,8 +162,8 @@ fn zone_checks(
         seen.done,
         seen.seals,
     );
-    let check = mem_lookup::zone_check(p, z);
-    Sight { check, target }
+    mem_lookup::zone_check(drives.p, z)?;
+    Ok(target)
 }
 
 // 01, Refusals: the checks of a landing, in order. The ranges of the state are looked at in its bytes, before its open segment is looked up.
@@ -224,38 +181,36 @@ fn checks(
     seen: Look,
     drive: usize,
     stripe: usize,
-) -> Sight
+) -> Result<Target, Refusal>
     requires looks { Looks p (state_of bytes.now) drive stripe seen }
     requires missing_value { (missing ≡ (state_of bytes.now).missing) × (length bytes.now ≡ state_len) × (opened ≡ (state_of bytes.now).opened) }
-    ensures check_value { checked result.check
+    ensures check_value { checked result
         ≡ land_refusal p offline.now (mk_disk image.now pointers.now)
         (mk_memory (state_of bytes.now) addresses.now compact.now inflight.now) drive stripe }
-    ensures target_at { checked result.check ≡ none
-        → TargetAt p (view_of p offline.now image.now pointers.now) (state_of bytes.now) drive seen.done result.target }
+    ensures target_at { IfOk result (λ t. TargetAt p (view_of p offline.now image.now pointers.now) (state_of bytes.now) drive seen.done t) }
 {
     if !disk_shape::in_range(p) {
-        return refused(Answer::Refused(1));
+        return Err(Refusal::Range);
     }
-    if !mem_calls::lent_ok(p, offline, image, pointers, addresses, compact, inflight) {
-        return refused(Answer::Refused(2));
-    }
-    let rule = mem_calls::list_rule(p, offline);
-    if rule != 0 {
-        return refused(Answer::Refused(rule));
-    }
+    mem_calls::lent_ok(p, offline, image, pointers, addresses, compact, inflight)?;
+    mem_calls::list_rule(p, offline)?;
     if missing != 0 {
-        return refused(Answer::Refused(3));
+        return Err(Refusal::Missing);
     }
     let row = seen.row;
     if !call_land_chunk::waiting(p, seen.slot, row, drive) {
-        return refused(Answer::Refused(5));
+        return Err(Refusal::NotDue);
     }
     if !mem_bounds::state_ok(p, bytes) {
-        return refused(Answer::BadZone(0));
+        return Err(Refusal::BadZone(0));
     }
-    zone_checks(
-        p, image, pointers, offline, addresses, opened, seen, drive, stripe,
-    )
+    let drives = Drives {
+        p,
+        image,
+        pointers,
+        offline,
+    };
+    zone_checks(&drives, addresses, opened, seen, drive, stripe)
 }
 
 // 01, Landing: the chunk of a drive goes to the zone's write pointer, its record in its spare.
@@ -343,7 +298,7 @@ fn seal(
     segment: Seg,
     seals: bool,
     count: u64,
-) -> Made
+) -> Result<u64, TooFew>
     requires p_value { in_range p ≡ true }
     requires whole { Whole p (mk_disk image.old pointers.old) }
     requires zones_low { ZonesLow p 0 segment × (seals ≡ true → (d : ℕ) → d < p.N → pointer_of p pointers.old d (zone_on segment d) + footers p ≤ capacity p) }
@@ -352,10 +307,7 @@ fn seal(
         (mk_disk image.old pointers.old) result (mk_disk image.new pointers.new) }
 {
     if !seals {
-        return Made {
-            left: count,
-            cut: false,
-        };
+        return Ok(count);
     }
     call_land_seal::seal_stores(p, image, pointers, segment, count)
 }
@@ -390,9 +342,15 @@ fn complete(
     ensures { Completing p offline.now count row segment seals (mk_disk image.old pointers.old) addresses.old compact.old result
         (mk_disk image.new pointers.new) addresses.new compact.new }
 {
-    call_land_table::point(p, image, pointers, offline, addresses, segment, row);
+    let drives = Drives {
+        p,
+        image,
+        pointers,
+        offline,
+    };
+    call_land_table::point(&drives, addresses, segment, row);
     let made = seal(p, image, pointers, segment, seals, count);
-    if made.cut {
+    if made.is_err() {
         return cut(addresses, compact);
     }
     let n = call_land_chunk::writes_in(row);
@@ -513,7 +471,7 @@ pub fn land(
 {
     let seen = look_at(p, state, bytes, drive, stripe);
     let front = mem_rows::front_of(state);
-    let sight = checks(
+    let target = match checks(
         p,
         offline,
         image,
@@ -527,12 +485,10 @@ pub fn land(
         seen,
         drive,
         stripe,
-    );
-    let c = sight.check;
-    if let Check::Fail(answer) = c {
-        return mem_rows::kept(answer, front);
-    }
-    let target = sight.target;
+    ) {
+        Err(why) => return mem_rows::kept(Answer::from(why), front),
+        Ok(target) => target,
+    };
     plan(
         p, offline, image, pointers, addresses, compact, inflight, front, seen, target, drive,
         stripe, count,

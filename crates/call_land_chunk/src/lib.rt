@@ -13,23 +13,11 @@ use disk_records::Record;
 use mem_rows::Row;
 use spec::{Address, Params, Stamp};
 
-fn wide(b: u8) -> usize
-    ensures { result ≡ b }
-{
-    b as usize
-}
-
-fn whole(n: u32) -> usize
-    ensures { result ≡ n }
-{
-    n as usize
-}
-
 // 01, Write: how many data positions are filled.
 pub fn filled_in(row: Row) -> usize
     ensures { result ≡ filled_in_of (alone row) 0 }
 {
-    wide(row.filled)
+    row.filled as usize
 }
 
 // 01, Landing: the chunk on drive d of the stripe is there and has not landed.
@@ -40,8 +28,8 @@ pub fn ready(p: Params, row: Row, d: usize) -> bool
     if bits_masks::has_drive(row.landed, d) {
         return false;
     }
-    let s = whole(row.number);
-    let f = wide(row.filled);
+    let s = row.number as usize;
+    let f = row.filled as usize;
     if disk_shape::is_data(p, s, d) {
         return disk_shape::data_position(p, s, d) < f;
     }
@@ -101,8 +89,7 @@ pub fn offset_in(row: Row, drive: usize) -> usize
     requires { drive < 8 }
     ensures { result ≡ offset_in (alone row) 0 drive }
 {
-    let o = row.offsets[drive];
-    whole(o)
+    row.offsets[drive] as usize
 }
 
 // 01, What a zone holds: the parity's record, from the filled positions.
@@ -121,7 +108,7 @@ pub fn flight_record(p: Params, row: Row, d: usize) -> Record
     requires { (in_range p ≡ true) × (d < p.N) × (filled_in_of (alone row) 0 ≤ 8) }
     ensures { rec_val result ≡ flight_rec p (alone row) 0 d }
 {
-    let s = whole(row.number);
+    let s = row.number as usize;
     if disk_shape::is_data(p, s, d) {
         return entry(row, disk_shape::data_position(p, s, d));
     }
@@ -134,12 +121,10 @@ pub fn writes_in(row: Row) -> usize
 {
     let f = filled_in(row);
     let mut n = 0;
-    let mut k = 0;
-    while k < f {
+    for k in 0..f {
         if bits_masks::has_drive(row.writes, k) {
             n += 1;
         }
-        k += 1;
     }
     n
 }

@@ -37,21 +37,6 @@ unfolding least
 least-append n [] m = refl
 least-append n (k ∷ l) m = least-append (min n k) l m
 
--- one zone more, of which w is the least so far
-pub least_lower : (w z Z : ℕ) (l : List ℕ) → z < w → w ≤ Z → least w (cons_if (ltb z Z) z [] ++ l) ≡ least z l
-unfolding least cons_if
-least_lower w z Z l h g =
-    let e : min w z ≡ z = omega arith in
-    ap (λ (x : Bool). least w (cons_if x z [] ++ l)) (lt-ltb z Z (omega arith)) ∙ ap (λ (x : ℕ). least x l) e
-
-same_if : (b : Bool) (w z : ℕ) (l : List ℕ) → w ≤ z → least w (cons_if b z [] ++ l) ≡ least w l
-unfolding least cons_if
-same_if true w z l h = let e : min w z ≡ w = omega arith in ap (λ (x : ℕ). least x l) e
-same_if false w z l h = refl
-
-pub least_same : (w z Z : ℕ) (l : List ℕ) → w ≤ z → least w (cons_if (ltb z Z) z [] ++ l) ≡ least w l
-least_same w z Z l h = same_if (ltb z Z) w z l h
-
 -- 01, Refusals, 9: refused where the least is one of a zone
 pub lowest_refused : (Z : ℕ) (zs : List ℕ) → all (λ z. ltb z Z) zs ≡ true → first_refusal (zones (cons_if (ltb (least Z zs) Z) (least Z zs) []) ∷ []) ≡ first_refusal (zones zs ∷ [])
 unfolding first_refusal ninth least cons_if
@@ -204,23 +189,19 @@ module _ (p : Params) (off im ps : List ℕ) (h : length im ≡ image_len p) (g 
 -- ---- the zone of an entry
 
 module _ (p : Params) (v : View) (tb : List ℕ) (e : Rec) where
-  nothing! : cons_if (ltb p.Z p.Z) p.Z [] ≡ []
-  unfolding cons_if
-  nothing! = ap (λ (x : Bool). cons_if x p.Z []) (le-ltb p.Z p.Z (omega arith))
-
-  pub entry_outside : p.L ≤ e.address → entry_faults p v tb e ≡ cons_if (ltb p.Z p.Z) p.Z []
+  pub entry_outside : p.L ≤ e.address → entry_faults p v tb e ≡ []
   unfolding entry_faults
   entry_outside h =
       let q = place_at_of tb e.address in
-      ap (λ (x : Bool). cond x (cond (eqb q never_place) [] (place_faults p v 0 q)) []) (le-ltb e.address p.L h) ∙ sym nothing!
+      ap (λ (x : Bool). cond x (cond (eqb q never_place) [] (place_faults p v 0 q)) []) (le-ltb e.address p.L h)
 
-  pub entry_never : e.address < p.L → place_at_of tb e.address ≡ never_place → entry_faults p v tb e ≡ cons_if (ltb p.Z p.Z) p.Z []
+  pub entry_never : e.address < p.L → place_at_of tb e.address ≡ never_place → entry_faults p v tb e ≡ []
   unfolding entry_faults
   entry_never h f =
       let q = place_at_of tb e.address in
       let a : ltb e.address p.L ≡ true = lt-ltb e.address p.L h in
       let b : eqb q never_place ≡ true = eq-eqb q never_place f in
-      (λ j. cond (a j) (cond (b j) [] (place_faults p v 0 q)) []) ∙ sym nothing!
+      (λ j. cond (a j) (cond (b j) [] (place_faults p v 0 q)) [])
 
   pub entry_placed : e.address < p.L → (place_at_of tb e.address ≡ never_place → ⊥) → entry_faults p v tb e ≡ place_faults p v 0 (place_at_of tb e.address)
   unfolding entry_faults
@@ -232,7 +213,7 @@ module _ (p : Params) (v : View) (tb : List ℕ) (e : Rec) where
 
 -- ---- the numbers of a range one after the other, each with at most one bad zone
 
-module _ (Z : ℕ) (f : ℕ → List ℕ) where
+module _ (f : ℕ → List ℕ) where
   -- the bad zones from number k on
   abbrev pub faults_from : ℕ → ℕ → List ℕ
   faults_from k n = flat f (up_from k (n - k))
@@ -243,13 +224,11 @@ module _ (Z : ℕ) (f : ℕ → List ℕ) where
   faults_step : (k n : ℕ) → k < n → faults_from k n ≡ f k ++ faults_from (k + 1) n
   faults_step k n h = ap (flat f) (up_from_step k n h) ∙ flat-cons f k (up_from (k + 1) (n - (k + 1)))
 
-  pub faults_lower : (w z k n : ℕ) → k < n → f k ≡ cons_if (ltb z Z) z [] → z < w → w ≤ Z → least z (faults_from (k + 1) n) ≡ least w (faults_from k n)
-  faults_lower w z k n h e l g =
-      sym (ap (least w) (faults_step k n h ∙ ap (λ (x : List ℕ). x ++ faults_from (k + 1) n) e) ∙ least_lower w z Z (faults_from (k + 1) n) l g)
-
-  pub faults_same : (w z k n : ℕ) → k < n → f k ≡ cons_if (ltb z Z) z [] → w ≤ z → least w (faults_from (k + 1) n) ≡ least w (faults_from k n)
-  faults_same w z k n h e l =
-      sym (ap (least w) (faults_step k n h ∙ ap (λ (x : List ℕ). x ++ faults_from (k + 1) n) e) ∙ least_same w z Z (faults_from (k + 1) n) l)
+  -- those of number k more
+  pub faults_next : (w w' k n : ℕ) (l : List ℕ) → k < n → f k ≡ l → w' ≡ least w l → least w' (faults_from (k + 1) n) ≡ least w (faults_from k n)
+  faults_next w w' k n l h e q =
+      ap (λ (x : ℕ). least x (faults_from (k + 1) n)) q ∙ sym (least-append w l (faults_from (k + 1) n))
+      ∙ sym (ap (least w) (faults_step k n h ∙ ap (λ (x : List ℕ). x ++ faults_from (k + 1) n) e))
 
   pub faults_end : (w k n : ℕ) → n ≤ k → least w (faults_from k n) ≡ w
   unfolding least flat
@@ -271,13 +250,6 @@ module _ (Z z : ℕ) (hz : z < Z) where
   pub fine_lowest : Z ≡ least Z (cons_if false z [])
   unfolding least cons_if
   fine_lowest = refl
-
-  pub bad_named : cons_if true z [] ≡ cons_if (ltb z Z) z []
-  bad_named = ap (λ (x : Bool). cons_if x z []) (sym (lt-ltb z Z hz))
-
-pub nbad_named : (Z z : ℕ) → cons_if false z [] ≡ cons_if (ltb Z Z) Z []
-unfolding cons_if
-nbad_named Z z = sym (ap (λ (x : Bool). cons_if x Z []) (le-ltb Z Z (omega arith)))
 
 -- ---- the open segment, then the entries
 

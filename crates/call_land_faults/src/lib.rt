@@ -1,18 +1,20 @@
 // What is wrong with a landing on the drives and in the address table: its bad zones, the lowest of them (01, Refusals, 9).
 #![tactic(auto)]
 
-ghost use Rattle.std.specs.Prelude.{◌≡◌, true, cond, List, [], ℕ, ◌≤◌, ◌<◌, ltb, length};
-ghost use Rattle.spec.specs.Drives.{view_of, mk_disk, zone_on};
+ghost use Rattle.disk_drives.specs.Viewed.{viewed};
+ghost use Rattle.std.specs.Prelude.{◌≡◌, true, cond, List, [], ℕ, ◌≤◌, ◌<◌, length};
+ghost use Rattle.spec.specs.Drives.{view_of, zone_on};
 ghost use Rattle.spec.specs.Landing.{misplaced, overfull, entry_faults};
 ghost use Rattle.spec.specs.Layout.{Rec};
 ghost use Rattle.spec.specs.Lists.{cons_if, least, flat};
 ghost use Rattle.spec.specs.Memory.{filled_in_of, entries_in};
-ghost use Rattle.spec.specs.Params.{in_range, image_len, pointers_len, offline_len, addresses_len};
+ghost use Rattle.spec.specs.Params.{in_range, image_len, pointers_len, addresses_len};
 ghost use Rattle.law_basic.specs.Segs.{ZonesLow};
-ghost use Rattle.law_views.specs.Views.{Whole};
 ghost use Rattle.call_land_faults.specs.Lowest.{over_by, faults_of};
 ghost use Rattle.call_land_chunk.specs.Alone.{alone};
+ghost use Rattle.mem_lookup.specs.Places.{one_fault};
 
+use disk_drives::Drives;
 use mem_rows::Row;
 use spec::{Address, Params, Place, Seg};
 
@@ -33,6 +35,7 @@ fn misplaced(p: Params, pointers: &[u8], d: usize, zone: usize, stripe: usize) -
 }
 
 // 01, Refusals, 9: the zone where the chunk goes wrong there; Z where it doesn't.
+// Stays: `least` of spec/ starts at Z and is Z where there is none, so the walk over all faults starts with this number.
 fn chunk_fault(p: Params, pointers: &[u8], d: usize, zone: usize, stripe: usize) -> usize
     requires p_value { in_range p ≡ true }
     requires pointers_len { (length pointers.now ≡ pointers_len p) × (d < p.N) × (zone < p.Z) }
@@ -63,16 +66,27 @@ fn no_room(p: Params, pointers: &[u8], d: usize, segment: Seg, e: usize) -> bool
     most < n + f
 }
 
-// That zone, where it has none; Z where it has.
-fn full_zone(p: Params, pointers: &[u8], d: usize, segment: Seg, e: usize) -> usize
+// That zone, where it has none.
+fn full_zone(p: Params, pointers: &[u8], d: usize, segment: Seg, e: usize) -> Option<usize>
     requires p_value { in_range p ≡ true }
     requires pointers_len { (length pointers.now ≡ pointers_len p) × (e < p.N) × ZonesLow p 0 segment }
-    ensures { cons_if (over_by p pointers.now d segment e) (zone_on segment e) [] ≡ cons_if (ltb result p.Z) result [] }
+    ensures { cons_if (over_by p pointers.now d segment e) (zone_on segment e) [] ≡ one_fault result }
 {
     if no_room(p, pointers, d, segment, e) {
-        return disk_shape::zone_on(p, segment, e);
+        return Some(disk_shape::zone_on(p, segment, e));
     }
-    p.Z
+    None
+}
+
+// The lower of the lowest so far and one more bad zone, if there is one.
+#[tactic(auto, unfolding(spec::specs::Lists::least))]
+fn lowest(worst: usize, fault: Option<usize>) -> usize
+    ensures { result ≡ least worst (one_fault fault) }
+{
+    match fault {
+        Some(z) => worst.min(z),
+        None => worst,
+    }
 }
 
 // 01, Refusals, 9: of the zones that the footers would fill above capacity, and of one zone, the lowest.
@@ -83,68 +97,42 @@ fn overfull(p: Params, pointers: &[u8], d: usize, segment: Seg, zone: usize) -> 
     ensures upper_bound { result ≤ p.Z }
 {
     let mut worst = zone;
-    let mut e = 0;
-    while e < p.N {
-        let z = full_zone(p, pointers, d, segment, e);
-        if z < worst {
-            worst = z;
-        }
-        e += 1;
+    for e in 0..p.N {
+        worst = lowest(worst, full_zone(p, pointers, d, segment, e));
     }
     worst
 }
 
-// 01, Refusals, 9: the bad zone of the place that the table holds of an address; Z where there is none.
-fn entry_fault(
-    p: Params,
-    image: &[u8],
-    pointers: &[u8],
-    offline: &[u8],
-    addresses: &[u8],
-    address: Address,
-) -> usize
-    requires p_value { in_range p ≡ true }
-    requires whole { Whole p (mk_disk image.now pointers.now) × (length offline.now ≡ offline_len p) × (length addresses.now ≡ addresses_len p) }
+// 01, Refusals, 9: the bad zone, if there is one, of the place that the table holds of an address.
+fn entry_fault(drives: &Drives<'_>, addresses: &[u8], address: Address) -> Option<usize>
+    requires addresses_long { (length addresses.now ≡ addresses_len drives.now.p) }
     ensures { (e : Rec)
         → e.address ≡ address.0
-        → entry_faults p (view_of p offline.now image.now pointers.now) addresses.now e ≡ cons_if (ltb result p.Z) result [] }
+        → entry_faults drives.now.p (viewed drives.now) addresses.now e ≡ one_fault result }
 {
-    if p.L as u64 <= address.0 {
-        return p.Z;
+    if drives.p.L as u64 <= address.0 {
+        return None;
     }
     let q = mem_tables::place_at(addresses, address.0 as usize);
     if q.0 == Place::NEVER.0 {
-        return p.Z;
+        return None;
     }
-    mem_lookup::place_fault(p, image, pointers, offline, 0, q)
+    mem_lookup::place_fault(drives, 0, q)
 }
 
 // 01, Refusals, 9: of the places that the table holds of the stripe's addresses, and of one zone, the lowest bad zone.
-fn entries_fault(
-    p: Params,
-    image: &[u8],
-    pointers: &[u8],
-    offline: &[u8],
-    addresses: &[u8],
-    row: Row,
-    zone: usize,
-) -> usize
-    requires p_value { in_range p ≡ true }
-    requires whole { Whole p (mk_disk image.now pointers.now) × (length offline.now ≡ offline_len p) × (length addresses.now ≡ addresses_len p) }
-    requires row_bound { (filled_in_of (alone row) 0 ≤ 8) × (zone ≤ p.Z) }
+fn entries_fault(drives: &Drives<'_>, addresses: &[u8], row: Row, zone: usize) -> usize
+    requires addresses_long { (length addresses.now ≡ addresses_len drives.now.p) }
+    requires row_bound { (filled_in_of (alone row) 0 ≤ 8) × (zone ≤ drives.now.p.Z) }
     ensures { result ≡ least zone
-        (flat (entry_faults p (view_of p offline.now image.now pointers.now) addresses.now) (entries_in (alone row) 0)) }
+        (flat (entry_faults drives.now.p (viewed drives.now) addresses.now) (entries_in (alone row) 0)) }
 {
     let n = call_land_chunk::filled_in(row);
     let mut worst = zone;
-    let mut k = 0;
-    while k < n {
+    for k in 0..n {
         let e = call_land_chunk::entry(row, k);
-        let z = entry_fault(p, image, pointers, offline, addresses, e.address);
-        if z < worst {
-            worst = z;
-        }
-        k += 1;
+        let z = entry_fault(drives, addresses, e.address);
+        worst = lowest(worst, z);
     }
     worst
 }
@@ -177,11 +165,9 @@ fn segment_fault(
 
 // 01, Refusals, 9: the lowest bad zone of the landing of a stripe's chunk on drive d of the open segment, where it completes the stripe or not, and seals or not;
 // Z where there is none.
+// Stays: that Z is what `least` of spec/ gives, and what `zone_checks` of call_land tests.
 pub fn land_fault(
-    p: Params,
-    image: &[u8],
-    pointers: &[u8],
-    offline: &[u8],
+    drives: &Drives<'_>,
     addresses: &[u8],
     row: Row,
     d: usize,
@@ -191,16 +177,15 @@ pub fn land_fault(
     done: bool,
     seals: bool,
 ) -> usize
-    requires p_value { in_range p ≡ true }
-    requires whole { Whole p (mk_disk image.now pointers.now) × (length offline.now ≡ offline_len p) × (length addresses.now ≡ addresses_len p) }
-    requires d_lt_n { (d < p.N) × (zone < p.Z) × (seals ≡ true → ZonesLow p 0 segment) × (filled_in_of (alone row) 0 ≤ 8) }
-    ensures { result ≡ least p.Z
-        (faults_of p (view_of p offline.now image.now pointers.now) addresses.now (entries_in (alone row) 0) d zone segment stripe
+    requires addresses_long { (length addresses.now ≡ addresses_len drives.now.p) }
+    requires d_lt_n { (d < drives.now.p.N) × (zone < drives.now.p.Z) × (seals ≡ true → ZonesLow drives.now.p 0 segment) × (filled_in_of (alone row) 0 ≤ 8) }
+    ensures { result ≡ least drives.now.p.Z
+        (faults_of drives.now.p (viewed drives.now) addresses.now (entries_in (alone row) 0) d zone segment stripe
         done seals) }
 {
-    let z = segment_fault(p, pointers, seals, d, zone, segment, stripe);
+    let z = segment_fault(drives.p, drives.pointers, seals, d, zone, segment, stripe);
     if !done {
         return z;
     }
-    entries_fault(p, image, pointers, offline, addresses, row, z)
+    entries_fault(drives, addresses, row, z)
 }

@@ -1,9 +1,8 @@
 -- Footers of a segment, drive by drive: the zones of the other drives stay as they came (01, Landing; What a zone holds). Assumes nothing.
-use Rattle.std.specs.Prelude.{◌≡◌, refl, true, take, drop, set}
+use Rattle.std.specs.Prelude.{Result, Ok, ◌≡◌, refl, take, drop, set}
 use Rattle.std.proofs.Common.{sym, ◌∙◌, get_or-set_other}
 use Rattle.std.proofs.Math.Path.{ap, subst}
 use mathlib.Core.List.{List, [], ◌∷◌, ◌++◌, map}
-use Rattle.std.proofs.Math.Bool.{false}
 use Prim.Native.Nat.{ℕ, suc, ◌+◌, ◌-◌, ◌^◌, ◌≤◌, ◌<◌}
 use native.Mathlib.Omega.{arith}
 use Rattle.std.proofs.Math.ListN.{length, get_or, length-map}
@@ -23,8 +22,8 @@ use Rattle.law_basic.specs.Xor.{AllLong, long_up_from}
 use Rattle.law_basic.specs.Segs.{ZonesLow, low_here}
 use Rattle.law_views.specs.Pointers.{pointer_set}
 use Rattle.law_views.specs.Views.{Whole, pointer_view, blocks_long, spare_view, view_put, whole_put, seen}
-use Rattle.disk_zones.specs.declared.Made.{Made}
-use Rattle.disk_zones.specs.Made.{Storing, storing_all, storing_stop, storing_join, storing_none, put_pointers}
+use Rattle.disk_zones.specs.declared.TooFew.{TooFew}
+use Rattle.disk_zones.specs.Made.{too_few, Storing, storing_all, storing_stop, storing_join, storing_none, put_pointers}
 use Rattle.law_drives.specs.Laid.{Long, in_take, in_drop, length_footer}
 use Rattle.law_drives.specs.Members.{map_in, get_d_in}
 use Rattle.spec.specs.declared.Seg.{Seg}
@@ -98,23 +97,23 @@ module _ (p : Params) (off : List ℕ) (k₀ : Disk) (g : Seg) (number : ℕ) wh
   -- those of the drives below d are made, the other drives' zones are as they came
   pub record Sealing (d left : ℕ) (k : Disk) : Type 0 where
     pub within : d ≤ p.N
-    pub made : Storing p number (flat feet (below d)) k₀ (record { left = left; cut = false }) k
+    pub made : Storing p number (flat feet (below d)) k₀ (Ok left) k
     pub whole : Whole p k
     pub rest : (e : ℕ) → d ≤ e → e < p.N → zone_at (seen p off k) e (zone_on g e) ≡ zone_at (seen p off k₀) e (zone_on g e)
 
   pub sealing_start : Whole p k₀ → Sealing 0 number k₀
   sealing_start w = record {
     within = omega arith;
-    made = subst (λ (x : List Store). Storing p number x k₀ (record { left = number; cut = false }) k₀) (sym (ap (flat feet) below_none ∙ flat_none feet)) (storing_none p number k₀);
+    made = subst (λ (x : List Store). Storing p number x k₀ (Ok number) k₀) (sym (ap (flat feet) below_none ∙ flat_none feet)) (storing_none p number k₀);
     whole = w;
     rest = λ e _ _. refl;
   }
 
-  pub sealing_done : (d left : ℕ) (k : Disk) → Sealing d left k → p.N ≤ d → Storing p number (seal_stores p (seen p off k₀) g) k₀ (record { left = left; cut = false }) k
+  pub sealing_done : (d left : ℕ) (k : Disk) → Sealing d left k → p.N ≤ d → Storing p number (seal_stores p (seen p off k₀) g) k₀ (Ok left) k
   unfolding seal_stores drives_of
   sealing_done d left k s h =
       let e : d ≡ p.N = omega (arith, s.within) in
-      subst (λ (x : ℕ). Storing p number (flat feet (below x)) k₀ (record { left = left; cut = false }) k) e s.made
+      subst (λ (x : ℕ). Storing p number (flat feet (below x)) k₀ (Ok left) k) e s.made
 
 module _ (p : Params) (off : List ℕ) (k₀ : Disk) (g : Seg) (number d left : ℕ) (k : Disk) (s : Sealing p off k₀ g number d left k) (hd : d < p.N) (hg : ZonesLow p 0 g) where
   -- a pointer that waits is as it came
@@ -127,7 +126,11 @@ module _ (p : Params) (off : List ℕ) (k₀ : Disk) (g : Seg) (number d left : 
       let e : (zone_at (seen p off k) d (zone_on g d)).pointer ≡ (zone_at (seen p off k₀) d (zone_on g d)).pointer = ap (λ (q : Zone). q.pointer) (s.rest d (omega arith) hd) in
       omega (arith, a, b, e, room)
 
-  module _ (m : Made) (k' : Disk) (h : Storing p left (footer_stores p d (zone_on g d) (zone_at (seen p off k) d (zone_on g d)) 0 (footers p)) k m k') where
+  -- the call's stores
+  abbrev due : List Store
+  due = footer_stores p d (zone_on g d) (zone_at (seen p off k) d (zone_on g d)) 0 (footers p)
+
+  module _ (m : Result ℕ TooFew) (k' : Disk) (h : Storing p left due k m k') where
     -- its footers are those of the zone as it came
     as_came : Storing p left (feet p off k₀ g number d) k m k'
     as_came = subst (λ (q : Zone). Storing p left (footer_stores p d (zone_on g d) q 0 (footers p)) k m k') (s.rest d (omega arith) hd) h
@@ -135,27 +138,28 @@ module _ (p : Params) (off : List ℕ) (k₀ : Disk) (g : Seg) (number d left : 
     feet_joined : Storing p number (flat (feet p off k₀ g number) (below (d + 1))) k₀ m k'
     feet_joined =
         subst (λ (x : List Store). Storing p number x k₀ m k') (sym (flat-below-snoc (feet p off k₀ g number) d))
-        (storing_join p number (flat (feet p off k₀ g number) (below d)) k₀ (record { left = left; cut = false }) k s.made (feet p off k₀ g number d) m k' refl as_came)
+        (storing_join p number (flat (feet p off k₀ g number) (below d)) k₀ left k s.made (feet p off k₀ g number d) m k' as_came)
 
-    pub sealing_turn : Ranged p → pointer_of p k.pointers d (zone_on g d) + footers p ≤ capacity p → m.cut ≡ false → Sealing p off k₀ g number (d + 1) m.left k'
-    sealing_turn r room e =
+  module _ (k' : Disk) where
+    pub sealing_turn : (y : ℕ) → Storing p left due k (Ok y) k' → Ranged p → pointer_of p k.pointers d (zone_on g d) + footers p ≤ capacity p → Sealing p off k₀ g number (d + 1) y k'
+    sealing_turn y h r room =
         let hz = low_here p g d hg hd in
-        let a : k' ≡ store_all (store_disk p) (feet p off k₀ g number d) k = storing_all p left (feet p off k₀ g number d) k m k' as_came e in
+        let a : k' ≡ store_all (store_disk p) (feet p off k₀ g number d) k = storing_all p left (feet p off k₀ g number d) k y k' (as_came (Ok y) k' h) in
         let f = footers_leave p off r k s.whole d (zone_on g d) hd hz (zone_at (seen p off k₀) d (zone_on g d)) (footers p) (sym (s.rest d (omega arith) hd)) room in
         record {
           within = omega arith;
-          made = subst (λ (x : Made). Storing p number (flat (feet p off k₀ g number) (below (d + 1))) k₀ x k') (λ j. record { left = m.left; cut = e j }) feet_joined;
+          made = feet_joined (Ok y) k' h;
           whole = subst (λ (x : Disk). Whole p x) (sym a) f.0;
           rest = λ x l l'. ap (λ (y : Disk). zone_at (seen p off y) x (zone_on g x)) a ∙ f.1 x (zone_on g x) (λ q. let y : ⊥ = omega arith in y) ∙ s.rest x (omega arith) l';
         }
 
     -- more are due than the number
-    pub sealing_cut : m.cut ≡ true → Storing p number (seal_stores p (seen p off k₀) g) k₀ m k'
+    pub sealing_cut : Storing p left due k too_few k' → Storing p number (seal_stores p (seen p off k₀) g) k₀ too_few k'
     unfolding seal_stores drives_of below
-    sealing_cut e =
+    sealing_cut h =
         let ft : ℕ → List Store = feet p off k₀ g number in
         let ts : List Store = flat ft (up_from (0 + (d + 1)) (p.N - (d + 1))) in
         let n : (d + 1) + (p.N - (d + 1)) ≡ p.N = omega arith in
         let q : up_from 0 p.N ≡ up_from 0 (d + 1) ++ up_from (0 + (d + 1)) (p.N - (d + 1)) = ap (up_from 0) (sym n) ∙ up_from_add 0 (d + 1) (p.N - (d + 1)) in
-        subst (λ (x : List Store). Storing p number x k₀ m k') (sym (ap (flat ft) q ∙ flat_append ft (up_from 0 (d + 1)) (up_from (0 + (d + 1)) (p.N - (d + 1)))))
-        (storing_stop p number (flat ft (below (d + 1))) k₀ m k' feet_joined ts e)
+        subst (λ (x : List Store). Storing p number x k₀ too_few k') (sym (ap (flat ft) q ∙ flat_append ft (up_from 0 (d + 1)) (up_from (0 + (d + 1)) (p.N - (d + 1)))))
+        (storing_stop p number (flat ft (below (d + 1))) k₀ k' (feet_joined too_few k' h) ts)

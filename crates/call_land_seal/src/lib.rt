@@ -9,7 +9,7 @@ ghost use Rattle.law_basic.specs.Segs.{ZonesLow};
 ghost use Rattle.law_views.specs.Views.{Whole};
 ghost use Rattle.disk_zones.specs.Made.{Storing};
 
-use disk_zones::Made;
+use disk_zones::TooFew;
 use spec::{Params, Seg};
 
 // 01, Landing; Store count: the footers of a segment, by drive, under a store count; each zone's are made from the zone as it came.
@@ -19,7 +19,7 @@ pub fn seal_stores(
     pointers: &mut [u8],
     segment: Seg,
     count: u64,
-) -> Made
+) -> Result<u64, TooFew>
     requires p_value { in_range p ≡ true }
     requires whole { Whole p (mk_disk image.old pointers.old) }
     requires zones_low { ZonesLow p 0 segment × ((d : ℕ) → d < p.N → pointer_of p pointers.old d (zone_on segment d) + footers p ≤ capacity p) }
@@ -29,15 +29,9 @@ pub fn seal_stores(
 {
     let n = disk_shape::footers(p);
     let mut left = count;
-    let mut d = 0;
-    while d < p.N {
+    for d in 0..p.N {
         let zone = disk_shape::zone_on(p, segment, d);
-        let made = disk_footers::footer_stores(p, image, pointers, d, zone, 0, n, left);
-        if made.cut {
-            return made;
-        }
-        left = made.left;
-        d += 1;
+        left = disk_footers::footer_stores(p, image, pointers, d, zone, 0, n, left)?;
     }
-    Made { left, cut: false }
+    Ok(left)
 }

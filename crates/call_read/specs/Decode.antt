@@ -1,10 +1,8 @@
 -- Decoding from the chunks that the table shows (01, Read; Refusals, 9). Assumes nothing.
-use Rattle.std.specs.Prelude.{◌≡◌, List, Bool, true, false, ◌&&◌, ℕ, ◌+◌, ◌-◌, ◌≤◌, ◌<◌, length, get_or}
+use Rattle.std.specs.Prelude.{◌≡◌, List, Bool, true, false, ◌&&◌, ℕ, ◌+◌, ◌-◌, ◌≤◌, ◌<◌, length, get_or, Option, Some, None, is_none, unwrap_or, IfSome, MatchOption}
 use Rattle.std.proofs.Math.Path.{sym, ap}
 use Rattle.std.proofs.Common.{◌∙◌, arith}
 use Rattle.std.proofs.Math.Bool.{not}
-use Rattle.std.proofs.lemmas.Bool.{eqb-false}
-use Rattle.std.proofs.Math.Dec.{eqb}
 use Rattle.spec.specs.declared.Params.{Params}
 use Rattle.spec.specs.Bytes.{part}
 use Rattle.spec.specs.Drives.{View, view_of, mk_disk, zone_at, chunk_at, zone_on, sealed_in, record_in, record_at}
@@ -15,62 +13,63 @@ use Rattle.spec.specs.Params.{in_range, unit_len, image_len, pointers_len, place
 use Rattle.spec.specs.Parity.{Piece, decode_block, decode_piece}
 use Rattle.spec.specs.Read.{shown, stored_at, decoded_at}
 use Rattle.law_basic.specs.Geometry.{ranged, data_below}
-use Rattle.law_basic.specs.Ranges.{any-map, any_false, any_up_from_same}
+use Rattle.law_basic.specs.Ranges.{any-map}
 use Rattle.law_code.specs.Code.{decode_apart, decode_block_same, decode_same}
 use Rattle.disk_code.specs.Folds.{PartsWithin}
 use Rattle.law_views.specs.Views.{block_view}
 use Rattle.law_scans.specs.Scans.{any-keep}
-use Rattle.law_drives.specs.Members.{first_any}
+use Rattle.law_drives.specs.Members.{first_any, in_any, in_none, in_below, below_in}
 use Rattle.spec.specs.declared.Seg.{Seg}
 
 -- 01, Refusals, 9: a drive that is present and does not show the stripe
 abbrev pub hides : Params → View → ℕ → List ℕ → Seg → ℕ → ℕ → Bool
 hides p v gone cs g s d = not (is_in gone d) && is_nil (shown_at p v cs d (zone_on g d) s)
 
--- 01, What a zone holds: o is the data offset at which the table shows the stripe on drive d, S where it doesn't; any below S on a missing drive
-pub record ShownOn (p : Params) (v : View) (gone : ℕ) (cs : List ℕ) (g : Seg) (s d o : ℕ) : Type 0 where
-  pub low : o ≤ p.S
-  pub hidden : eqb o p.S ≡ hides p v gone cs g s d
-  pub first : is_in gone d ≡ false → o ≡ first_or p.S (shown_at p v cs d (zone_on g d) s)
+-- 01, What a zone holds: o is the data offset at which the table shows the stripe on drive d, none where it doesn't; any below S on a missing drive
+pub record ShownOn (p : Params) (v : View) (gone : ℕ) (cs : List ℕ) (g : Seg) (s d : ℕ) (o : Option ℕ) : Type 0 where
+  pub low : IfSome o (λ x. x < p.S)
+  pub hidden : is_none o ≡ hides p v gone cs g s d
+  pub first : is_in gone d ≡ false → unwrap_or o p.S ≡ first_or p.S (shown_at p v cs d (zone_on g d) s)
 
 -- by drive
-abbrev pub ShownBy : Params → View → ℕ → List ℕ → Seg → ℕ → List ℕ → Type 0
-ShownBy p v gone cs g s at = (d : ℕ) → d < p.N → ShownOn p v gone cs g s d (get_or at d 0)
+pub record ShownBy (p : Params) (v : View) (gone : ℕ) (cs : List ℕ) (g : Seg) (s : ℕ) (at : List ℕ) : Type 0 where
+  pub long : length at ≡ 8
+  pub shows : (d : ℕ) → d < p.N → ShownOn p v gone cs g s d (Some (get_or at d 0))
 
--- 01, Refusals, 9: some present drive does not show the stripe, by the offsets
-abbrev pub any_hidden : Params → List ℕ → Bool
-any_hidden p at = any (λ d. eqb (get_or at d 0) p.S) (below p.N)
+-- 01, Refusals, 9: or some present drive does not show the stripe
+abbrev pub ShownAll : Params → View → ℕ → List ℕ → Seg → ℕ → Option (List ℕ) → Type 0
+ShownAll p v gone cs g s o = MatchOption o (any (hides p v gone cs g s) (below p.N) ≡ true) (ShownBy p v gone cs g s)
 
 -- the offsets are data offsets
 pub record OffsetsLow (p : Params) (at : List ℕ) : Type 0 where
   pub long : length at ≡ 8
   pub low : (d : ℕ) → d < p.N → get_or at d 0 < p.S
 
-module _ (p : Params) (v : View) (gone : ℕ) (cs : List ℕ) (g : Seg) (s : ℕ) (at : List ℕ) (h : ShownBy p v gone cs g s at) where
-  -- 01, Refusals, 9: the offsets say whether a present drive does not show the stripe
-  pub hidden_any : any_hidden p at ≡ any is_nil (shown p v gone cs g s)
-  unfolding shown present drives_of below
-  hidden_any =
-      any_up_from_same (λ d. eqb (get_or at d 0) p.S) (hides p v gone cs g s) 0 p.N (λ d a b. (h d (omega arith)).hidden)
-      ∙ sym (any-map is_nil (λ d. shown_at p v cs d (zone_on g d) s) (present p gone)
+module _ (p : Params) (v : View) (gone : ℕ) (cs : List ℕ) (g : Seg) (s : ℕ) where
+  -- 01, Refusals, 9: some present drive does not show the stripe
+  pub hidden_any : any (hides p v gone cs g s) (below p.N) ≡ any is_nil (shown p v gone cs g s)
+  unfolding shown present drives_of
+  hidden_any = sym (any-map is_nil (λ d. shown_at p v cs d (zone_on g d) s) (present p gone)
       ∙ any-keep (λ d. not (is_in gone d)) (λ d. is_nil (shown_at p v cs d (zone_on g d) s)) (below p.N))
 
-  module _ (none! : any_hidden p at ≡ false) where
-    unhidden : (d : ℕ) → d < p.N → eqb (get_or at d 0) p.S ≡ false
-    unfolding below
-    unhidden d l = any_false (λ d. eqb (get_or at d 0) p.S) 0 p.N d none! (omega arith) (omega arith)
+  pub hidden_here : (d : ℕ) → d < p.N → ShownOn p v gone cs g s d None → any (hides p v gone cs g s) (below p.N) ≡ true
+  hidden_here d l h = in_any (hides p v gone cs g s) (below p.N) d (in_below p.N d l) (sym h.hidden)
 
-    pub data_offsets : length at ≡ 8 → OffsetsLow p at
-    data_offsets e = record { long = e; low = λ d l. let n = eqb-false (get_or at d 0) p.S (unhidden d l) in omega (arith, n, (h d l).low) }
+  module _ (at : List ℕ) (h : ShownBy p v gone cs g s at) where
+    pub hidden_none : any (hides p v gone cs g s) (below p.N) ≡ false
+    hidden_none = in_none (hides p v gone cs g s) (below p.N) (λ d m. sym (h.shows d (below_in p.N d m)).hidden)
+
+    pub data_offsets : OffsetsLow p at
+    data_offsets = record { long = h.long; low = λ d l. (h.shows d l).low }
 
     shows_it : (d : ℕ) → d < p.N → is_in gone d ≡ false → is_nil (shown_at p v cs d (zone_on g d) s) ≡ false
-    shows_it d l n = sym (ap (λ (x : Bool). not x && is_nil (shown_at p v cs d (zone_on g d) s)) n) ∙ sym (h d l).hidden ∙ unhidden d l
+    shows_it d l n = sym (ap (λ (x : Bool). not x && is_nil (shown_at p v cs d (zone_on g d) s)) n) ∙ sym (h.shows d l).hidden
 
     -- 01, Read: the chunks at these offsets are those that the table shows
     pub decodes_from : (d : ℕ) → decoded_at p v gone cs d g s ≡ decode_piece p gone s d (λ e. stored_at p v gone e g (get_or at e 0))
     unfolding decoded_at
     decodes_from d = decode_same p gone s d _ _ (λ e l n. ap (stored_at p v gone e g)
-        (sym ((h e l).first n ∙ first_any p.S 0 (shown_at p v cs e (zone_on g e) s) (shows_it e l n))))
+        (sym ((h.shows e l).first n ∙ first_any p.S 0 (shown_at p v cs e (zone_on g e) s) (shows_it e l n))))
 
 -- 01, Restart, 3: the record by footer or spare, as the segment is sealed
 pub record_as_sealed : (p : Params) (v : View) (gone d : ℕ) (g : Seg) (o : ℕ) (full : Bool) → full ≡ sealed_in p v gone g → (r : Rec)

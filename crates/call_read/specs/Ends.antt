@@ -2,7 +2,7 @@
 use Rattle.std.proofs.Math.Path.{◌≡◌, refl, sym, ap, subst}
 use Rattle.std.proofs.Common.{◌∙◌, eq-eqb}
 use mathlib.Core.List.{List, []}
-use Rattle.std.specs.Prelude.{Bool, true, false, ◌&&◌, ℕ, ◌+◌, ◌≤◌, length}
+use Rattle.std.specs.Prelude.{Bool, true, false, ◌&&◌, ℕ, ◌+◌, ◌≤◌, length, Result, Ok, Err}
 use native.Mathlib.Omega.{arith}
 use Rattle.std.proofs.Math.ListN.{replicate}
 use Rattle.spec.specs.declared.Params.{Params}
@@ -22,6 +22,8 @@ use Rattle.spec.specs.Params.{in_range, unit_len, image_len, place_byte}
 use Rattle.spec.specs.Read.Found.{nowhere, here, away}
 use Rattle.spec.specs.Read.{Found, read_piece, read_answer_of, read_checks, read_plan, read_verdict, fill_plan, fill_verdict}
 use Rattle.law_calls.specs.Refusals.{call_refused}
+use Rattle.mem_calls.specs.Left.{answer_of, checked}
+use Rattle.mem_calls.specs.declared.Refusal.{Refusal}
 use Rattle.law_views.specs.Views.{seen}
 use Rattle.call_read.specs.Decode.{lost_block}
 use Rattle.call_read.specs.Order.{read_refusal, both_checks, found_at}
@@ -29,23 +31,23 @@ use Rattle.call_read.specs.Part.{part_not_refused}
 use Rattle.call_read.specs.Placed.{placed_at, found-placed, held_at, found-held, place_in_image, place_bytes}
 use Rattle.law_checks.specs.Reads.{read_after, fill_after}
 use Rattle.call_read.specs.Ready.{read_ready, ready_passed}
-use Rattle.call_read.specs.Sought.{refused_by, Gives}
+use Rattle.call_read.specs.Sought.{Gives}
 use Rattle.call_read.specs.declared.Sought.{Sought}
-use Rattle.call_read.specs.declared.Sought.TheVariants.{Bad, Never, Here, Away}
+use Rattle.call_read.specs.declared.Sought.TheVariants.{Never, Here, Away}
 
 -- 01, Read: what the first call answers
-abbrev pub find_answer : Params → Sought → Answer
-find_answer p (Bad r) = r
-find_answer p Never = NeverWritten
-find_answer p (Here q t) = Part (place_byte p q.0) t
-find_answer p (Away q t) = Lost t
+abbrev pub find_answer : Params → Result Sought Refusal → Answer
+find_answer p (Err r) = answer_of r
+find_answer p (Ok Never) = NeverWritten
+find_answer p (Ok (Here q t)) = Part (place_byte p q.0) t
+find_answer p (Ok (Away q t)) = Lost t
 
 -- 01, Read: what the second call answers
-abbrev pub fill_answer : Sought → Answer
-fill_answer (Bad r) = r
-fill_answer Never = Filled (a_stamp 0)
-fill_answer (Here q t) = Filled t
-fill_answer (Away q t) = Filled t
+abbrev pub fill_answer : Result Sought Refusal → Answer
+fill_answer (Err r) = answer_of r
+fill_answer (Ok Never) = Filled (a_stamp 0)
+fill_answer (Ok (Here q t)) = Filled t
+fill_answer (Ok (Away q t)) = Filled t
 
 and-true : (b : Bool) → (b && true) ≡ b
 and-true true = refl
@@ -56,8 +58,8 @@ module _ (p : Params) (off : List ℕ) (k : Disk) (m : Memory) (a : ℕ) where
   gone = m.state.missing
 
   -- 01, Read: what was sought is what the checks leave
-  abbrev pub SoughtBy : ℕ → Sought → List ℕ → Type 0
-  SoughtBy n x bs = (refused_by x ≡ read_refusal p off k m a n) × Gives p k.image (seen p off k) gone m.compact (found_at p off k m a n) x bs
+  abbrev pub SoughtBy : ℕ → Result Sought Refusal → List ℕ → Type 0
+  SoughtBy n x bs = (checked x ≡ read_refusal p off k m a n) × Gives p k.image (seen p off k) gone m.compact (found_at p off k m a n) x bs
 
   -- 01, Read: the first call is lent no block; as one of B bytes it has its length
   read_is : outcome p (store_disk p) 0 k m [] (decided (read_refusal p off k m a p.B) (read_plan p (seen p off k) m a)) ≡ call_disk p off k m (read a)
@@ -75,12 +77,12 @@ module _ (p : Params) (off : List ℕ) (k : Disk) (m : Memory) (a : ℕ) where
       ap (λ (x : Answer). mk_after x k m []) (q ∙ λ j. read_answer_of p (et j) (sym ef j)) ∙ sym (read_after p off k m a (ready_passed p off k m a p.B e))
 
   -- 01, Read: the first call, by what was sought
-  pub find_left : (x : Sought) (bs : List ℕ) → SoughtBy p.B x bs → mk_after (find_answer p x) k m [] ≡ call_disk p off k m (read a)
+  pub find_left : (x : Result Sought Refusal) (bs : List ℕ) → SoughtBy p.B x bs → mk_after (find_answer p x) k m [] ≡ call_disk p off k m (read a)
   unfolding read_answer_of
-  find_left (Bad r) bs h = read_refused r (sym h.0)
-  find_left Never bs h = read_done NeverWritten (sym h.0) _ nowhere refl h.1 refl
-  find_left (Here q t) bs h = read_done (Part (place_byte p q.0) t) (sym h.0) t.0 (here q.0) h.1.1 h.1.0 refl
-  find_left (Away q t) bs h = read_done (Lost t) (sym h.0) t.0 (away q.0) h.1.1 h.1.0 refl
+  find_left (Err r) bs h = read_refused (answer_of r) (sym h.0)
+  find_left (Ok Never) bs h = read_done NeverWritten (sym h.0) _ nowhere refl h.1 refl
+  find_left (Ok (Here q t)) bs h = read_done (Part (place_byte p q.0) t) (sym h.0) t.0 (here q.0) h.1.1 h.1.0 refl
+  find_left (Ok (Away q t)) bs h = read_done (Lost t) (sym h.0) t.0 (away q.0) h.1.1 h.1.0 refl
 
   -- 01, Read: a part lies within the image
   here_within : (at : ℕ) (s : Stamp) (t : ℕ) (f : Found) → placed_at p f → in_range p ≡ true → length k.image ≡ image_len p → read_answer_of p t f ≡ Part at s
@@ -119,25 +121,25 @@ module _ (p : Params) (off : List ℕ) (k : Disk) (m : Memory) (a : ℕ) where
         (λ j. mk_after (Filled (a_stamp (et j))) k m (eb j)) ∙ sym (fill_after p off k m a (ready_passed p off k m a (length b) e) b (read_ready p off k m a (length b) e).block_long)
 
     -- 01, Read: zeros, a copy or the decoded block; a refusal leaves it as it came
-    abbrev pub Fills : Sought → List ℕ → List ℕ → Type 0
-    Fills (Bad r) bs b' = b' ≡ b
-    Fills Never bs b' = b' ≡ replicate (length b) 0
-    Fills (Here q t) bs b' = b' ≡ part (place_byte p q.0) p.B k.image
-    Fills (Away q t) bs b' = b' ≡ lost_block p k.image gone q.0 bs
+    abbrev pub Fills : Result Sought Refusal → List ℕ → List ℕ → Type 0
+    Fills (Err r) bs b' = b' ≡ b
+    Fills (Ok Never) bs b' = b' ≡ replicate (length b) 0
+    Fills (Ok (Here q t)) bs b' = b' ≡ part (place_byte p q.0) p.B k.image
+    Fills (Ok (Away q t)) bs b' = b' ≡ lost_block p k.image gone q.0 bs
 
     -- 01, Read: the second call, by what was sought
-    pub fill_left : (x : Sought) (bs b' : List ℕ) → SoughtBy (length b) x bs → Fills x bs b' → mk_after (fill_answer x) k m b' ≡ call_disk p off k m (fill a b)
+    pub fill_left : (x : Result Sought Refusal) (bs b' : List ℕ) → SoughtBy (length b) x bs → Fills x bs b' → mk_after (fill_answer x) k m b' ≡ call_disk p off k m (fill a b)
     unfolding read_piece
-    fill_left (Bad r) bs b' h e = ap (mk_after r k m) e ∙ fill_refused r (sym h.0)
-    fill_left Never bs b' h e =
+    fill_left (Err r) bs b' h e = ap (mk_after (answer_of r) k m) e ∙ fill_refused (answer_of r) (sym h.0)
+    fill_left (Ok Never) bs b' h e =
         let r = read_ready p off k m a (length b) (sym h.0) in
         let f : nowhere ≡ found_at p off k m a (length b) = sym h.1 in
         fill_done (a_stamp 0) b' (sym h.0) (ap (λ (y : Found). (read_piece p (seen p off k) gone m.compact y).rec.stamp) f)
         (e ∙ ap (λ (n : ℕ). replicate n 0) r.block_long ∙ ap (λ (y : Found). (read_piece p (seen p off k) gone m.compact y).block) f)
-    fill_left (Here q t) bs b' h e =
+    fill_left (Ok (Here q t)) bs b' h e =
         let r = read_ready p off k m a (length b) (sym h.0) in
         let d = subst (placed_at p) h.1.0 (found-placed p (seen p off k) gone (found_at p off k m a (length b)) r.faultless) in
         let is = subst (held_at p (seen p off k) gone) h.1.0 (found-held p (seen p off k) gone (found_at p off k m a (length b)) r.faultless) in
         fill_done t b' (sym h.0) h.1.1
         (e ∙ place_bytes p q.0 r.ranged d off k gone m.compact r.whole is ∙ ap (λ (y : Found). (read_piece p (seen p off k) gone m.compact y).block) (sym h.1.0))
-    fill_left (Away q t) bs b' h e = fill_done t b' (sym h.0) h.1.1 (e ∙ sym h.1.2.decoded)
+    fill_left (Ok (Away q t)) bs b' h e = fill_done t b' (sym h.0) h.1.1 (e ∙ sym h.1.2.decoded)

@@ -14,7 +14,7 @@ use Rattle.spec.specs.Calls.{Check, ninth, first_refusal}
 use Rattle.spec.specs.Drives.{Disk, view_of}
 use Rattle.spec.specs.Engine.{lent_ok_of}
 use Rattle.spec.specs.Lists.{Opt}
-use Rattle.spec.specs.Lists.Opt.{some}
+use Rattle.spec.specs.Lists.Opt.{none, some}
 use Rattle.spec.specs.Memory.{Memory, state_ok}
 use Rattle.spec.specs.Params.{in_range}
 use Rattle.spec.specs.Read.{Found, lies, found_faults, decode_faults, read_checks}
@@ -59,18 +59,25 @@ module _ (p : Params) (off : List ℕ) (k : Disk) (m : Memory) (a n : ℕ) where
   unfolding read_checks
   read_block_fails e f = sym (rule_fails 2 (not (lent_ok_of p off k m && eqb n p.B)) (rest 1) (λ j. not (e j && ne_eqb n p.B f j)))
 
-  pub read_lengths_pass : lent_ok_of p off k m ≡ true → n ≡ p.B → read_from 2 ≡ read_from 1
+  read_lengths_pass : lent_ok_of p off k m ≡ true → n ≡ p.B → read_from 2 ≡ read_from 1
   unfolding read_checks
   read_lengths_pass e f = sym (rule_passes 2 (not (lent_ok_of p off k m && eqb n p.B)) (rest 1) (λ j. not (e j && eq-eqb n p.B f j)))
 
-  -- 02, item 4: r is what `list_rule` answers
-  pub read_list_fails : (r : ℕ) → r ≡ list_rule_of p off → (r ≡ 0 → ⊥) → some (Refused r) ≡ read_from 2
+  -- 02, item 4
+  pub read_list_fails : (r : Answer) → some r ≡ list_rule_of p off → some r ≡ read_from 2
   unfolding read_checks view_of
-  read_list_fails r e f = sym (list_fails p (seen p off k) (rest 3) r e f)
+  read_list_fails r e = list_fails p (seen p off k) (rest 3) r e
 
-  pub read_list_passes : (r : ℕ) → r ≡ list_rule_of p off → r ≡ 0 → read_from 4 ≡ read_from 2
+  read_list_passes : none ≡ list_rule_of p off → read_from 4 ≡ read_from 2
   unfolding read_checks view_of
-  read_list_passes r e f = sym (list_passes p (seen p off k) (rest 3) r e f)
+  read_list_passes e = sym (list_passes p (seen p off k) (rest 3) e)
+
+  -- 1 and 2 pass, and 10 and the narrow 1
+  pub read_lent : in_range p ≡ true → lent_ok_of p off k m ≡ true → n ≡ p.B → read_from 2 ≡ read_from 0
+  read_lent e f g = read_lengths_pass f g ∙ read_range_passes e
+
+  pub read_listed : in_range p ≡ true → lent_ok_of p off k m ≡ true → n ≡ p.B → none ≡ list_rule_of p off → read_from 4 ≡ read_from 0
+  read_listed e f g h = read_list_passes h ∙ read_lent e f g
 
   pub read_address_fails : p.L ≤ a → some (Refused 4) ≡ read_from 4
   unfolding read_checks

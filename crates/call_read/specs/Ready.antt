@@ -9,7 +9,6 @@ use Rattle.spec.specs.Lists.Opt.{none}
 use Rattle.spec.specs.Memory.{Memory}
 use Rattle.spec.specs.Params.{in_range, addresses_len, compact_len}
 use Rattle.spec.specs.Read.{found_faults}
-use Rattle.law_basic.specs.Geometry.{ranged}
 use Rattle.law_basic.specs.Ranges.{and_left, and_right}
 use Rattle.law_views.specs.Views.{Whole, seen}
 use Rattle.law_checks.specs.Passed.{ReadPassed, passed_too, read_passed}

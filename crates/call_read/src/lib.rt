@@ -9,33 +9,35 @@ ghost use Rattle.spec.specs.Engine.{call_disk};
 ghost use Rattle.spec.specs.Engine.Call.{read, fill};
 ghost use Rattle.spec.specs.Lists.{is_in};
 ghost use Rattle.spec.specs.Memory.{mk_memory, state_len, state_of};
-ghost use Rattle.spec.specs.Params.{in_range, image_len, pointers_len, offline_len, compact_len, place_zone, place_drive, place_byte};
+ghost use Rattle.spec.specs.Params.{in_range, image_len, pointers_len, compact_len, place_zone, place_drive, place_byte};
 ghost use Rattle.spec.specs.Parity.{decode_rec};
 ghost use Rattle.spec.specs.Read.Found.{here, away};
 ghost use Rattle.spec.specs.Read.{lies};
 ghost use Rattle.spec.specs.Host.{PartOf, part_at, part_len};
 ghost use Rattle.disk_records.specs.Record.{rec_val};
 ghost use Rattle.disk_stored.specs.Places.{DataPlace};
+ghost use Rattle.mem_calls.specs.Left.{checked};
 ghost use Rattle.mem_lookup.specs.Lies.{found_of};
+ghost use Rattle.disk_drives.specs.Viewed.{viewed};
 ghost use Rattle.disk_holders.specs.Held.{HeldOne};
 ghost use Rattle.law_drives.specs.Segs.{Here};
 ghost use Rattle.disk_code.specs.Folds.{PartsWithin};
-ghost use Rattle.call_read.specs.Decode.{ShownOn, ShownBy, OffsetsLow, any_hidden, BlockAt, BlocksAt, lost_block};
+ghost use Rattle.call_read.specs.Decode.{ShownOn, ShownAll, OffsetsLow, BlockAt, BlocksAt, lost_block};
 ghost use Rattle.call_read.specs.Order.{read_refusal};
 ghost use Rattle.call_read.specs.Placed.{Sorted};
-ghost use Rattle.call_read.specs.Sought.{refused_by, Gives, Seeks, SeeksAll};
+ghost use Rattle.call_read.specs.Sought.{Gives, Seeks, SeeksAll};
 ghost use Rattle.law_views.specs.Views.{Whole};
 ghost use Rattle.law_basic.specs.Segs.{ZonesLow};
 
-use disk_holders::Held;
+use disk_drives::Drives;
 use disk_records::Record;
+use mem_calls::Refusal;
 use mem_lookup::Found;
 use spec::{Address, Answer, Params, Place, Seg, Serial, Stamp};
 
-// 01, Refusals; Read: a refusal, or where the address lies, with the stamp.
+// 01, Read: where the address lies, with the stamp.
 #[derive(Clone, Copy)]
 pub enum Sought {
-    Bad(Answer),
     Never,
     Here(Place, Stamp),
     Away(Place, Stamp),
@@ -43,7 +45,7 @@ pub enum Sought {
 
 // ---- decoding
 
-// 01, What a zone holds: the data offset at which the table shows the stripe on a drive, S where it doesn't; 0 for a missing drive.
+// 01, What a zone holds: the data offset at which the table shows the stripe on a drive, if it shows it; 0 for a missing drive.
 fn shown_on(
     p: Params,
     pointers: &[u8],
@@ -52,20 +54,20 @@ fn shown_on(
     drive: usize,
     segment: Seg,
     s: usize,
-) -> usize
+) -> Option<usize>
     requires p_value { in_range p ≡ true }
     requires pointers_len { (length pointers.now ≡ pointers_len p) × (length compact.now ≡ compact_len p) }
     requires drive_lt_n { (drive < p.N) × ZonesLow p gone segment × (s < p.S) }
     ensures { (off : List ℕ) (im : List ℕ) → length im ≡ image_len p → ShownOn p (view_of p off im pointers.now) gone compact.now segment s drive result }
 {
     if bits_masks::has_drive(gone, drive) {
-        return 0;
+        return Some(0);
     }
     let zone = disk_shape::zone_on(p, segment, drive);
     mem_lookup::shown_at(p, pointers, compact, drive, zone, s)
 }
 
-// By drive.
+// 01, Refusals, 9: the same by drive; none where some present drive does not show the stripe.
 fn shown_offsets(
     p: Params,
     pointers: &[u8],
@@ -73,35 +75,19 @@ fn shown_offsets(
     compact: &[u8],
     segment: Seg,
     s: usize,
-    at: &mut [usize],
-)
+) -> Option<[usize; 8]>
     requires p_value { in_range p ≡ true }
-    requires pointers_len { (length pointers.now ≡ pointers_len p) × (length compact.now ≡ compact_len p) × (length at.old ≡ 8) }
+    requires pointers_len { (length pointers.now ≡ pointers_len p) × (length compact.now ≡ compact_len p) }
     requires zones_low { ZonesLow p gone segment × (s < p.S) }
     ensures { (off : List ℕ) (im : List ℕ)
         → length im ≡ image_len p
-        → ShownBy p (view_of p off im pointers.now) gone compact.now segment s at.new }
+        → ShownAll p (view_of p off im pointers.now) gone compact.now segment s result }
 {
-    let mut d = 0;
-    while d < p.N {
-        at[d] = shown_on(p, pointers, gone, compact, d, segment, s);
-        d += 1;
+    let mut at = [0usize; 8];
+    for d in 0..p.N {
+        at[d] = shown_on(p, pointers, gone, compact, d, segment, s)?;
     }
-}
-
-// 01, Refusals, 9: whether some present drive does not show the stripe.
-fn any_hidden(p: Params, at: &[usize]) -> bool
-    requires { (in_range p ≡ true) × (length at.now ≡ 8) }
-    ensures { result ≡ any_hidden p at.now }
-{
-    let mut d = 0;
-    while d < p.N {
-        if at[d] == p.S {
-            return true;
-        }
-        d += 1;
-    }
-    false
+    Some(at)
 }
 
 // 01, Restart, 3: the record at a data offset; full: the segment is sealed. Of a missing drive nothing is read.
@@ -153,12 +139,10 @@ fn decode_record(
     let full = disk_zones::is_sealed(p, pointers, gone, segment);
     let mut addresses = [0u64; 8];
     let mut stamps = [0u64; 8];
-    let mut d = 0;
-    while d < p.N {
+    for d in 0..p.N {
         let r = record_on(p, image, gone, full, d, segment, at[d]);
         addresses[d] = r.address.0;
         stamps[d] = r.stamp.0;
-        d += 1;
     }
     disk_code::decode_record(p, &addresses, &stamps, gone, s as u32, drive)
 }
@@ -182,10 +166,8 @@ fn block_bytes(p: Params, gone: u8, segment: Seg, at: &[usize], bytes: &mut [usi
     requires zones_low { ZonesLow p gone segment × OffsetsLow p at.now × (length bytes.old ≡ 8) }
     ensures { (im : List ℕ) → length im ≡ image_len p → BlocksAt p im gone segment at.now bytes.new }
 {
-    let mut d = 0;
-    while d < p.N {
+    for d in 0..p.N {
         bytes[d] = block_on(p, gone, d, segment, at[d]);
-        d += 1;
     }
 }
 
@@ -194,102 +176,92 @@ fn block_bytes(p: Params, gone: u8, segment: Seg, at: &[usize], bytes: &mut [usi
 // 01, Read: a place on the missing drive, in the segment of the serial: its stamp, or refused for its zone where some present drive does not
 // show the stripe. The bytes at which the blocks to decode from begin are left in bytes.
 fn seek_lost(
-    p: Params,
-    image: &[u8],
-    pointers: &[u8],
-    offline: &[u8],
+    drives: &Drives<'_>,
     gone: u8,
     compact: &[u8],
     q: Place,
     serial: Serial,
     bytes: &mut [usize],
-) -> Sought
-    requires p_value { in_range p ≡ true }
-    requires whole { Whole p (mk_disk image.now pointers.now) × (length offline.now ≡ offline_len p) × Here p gone }
-    requires compact_len { (length compact.now ≡ compact_len p) × (length bytes.old ≡ 8) × DataPlace p q.0 }
-    requires held_one { HeldOne p (view_of p offline.now image.now pointers.now) gone (place_drive p q.0) (place_zone p q.0) serial.0 }
-    ensures { Seeks p image.now (view_of p offline.now image.now pointers.now) gone compact.now (away q.0) result bytes.new }
+) -> Result<Sought, Refusal>
+    requires here { Here drives.now.p gone }
+    requires compact_len { (length compact.now ≡ compact_len drives.now.p) × (length bytes.old ≡ 8) × DataPlace drives.now.p q.0 }
+    requires held_one { HeldOne drives.now.p (viewed drives.now) gone (place_drive drives.now.p q.0) (place_zone drives.now.p q.0) serial.0 }
+    ensures { Seeks drives.now.p drives.now.image.now (viewed drives.now) gone compact.now (away q.0) result bytes.new }
 {
-    let zone = disk_shape::place_zone(p, q);
-    let s = disk_shape::place_block(p, q) - 1;
-    let segment = disk_gather::seg_for(p, image, pointers, offline, gone, serial);
-    let mut at = [0usize; 8];
-    shown_offsets(p, pointers, gone, compact, segment, s, &mut at);
-    if any_hidden(p, &at) {
-        return Sought::Bad(Answer::BadZone(zone as u64));
-    }
-    block_bytes(p, gone, segment, &at, bytes);
-    let drive = disk_shape::place_drive(p, q);
-    let r = decode_record(p, image, pointers, gone, drive, segment, s, &at);
+    let zone = disk_shape::place_zone(drives.p, q);
+    let s = disk_shape::place_block(drives.p, q) - 1;
+    let segment = disk_gather::seg_for(drives, gone, serial);
+    let Some(at) = shown_offsets(drives.p, drives.pointers, gone, compact, segment, s) else {
+        return Err(Refusal::BadZone(zone as u64));
+    };
+    block_bytes(drives.p, gone, segment, &at, bytes);
+    let drive = disk_shape::place_drive(drives.p, q);
+    let r = decode_record(
+        drives.p,
+        drives.image,
+        drives.pointers,
+        gone,
+        drive,
+        segment,
+        s,
+        &at,
+    );
     let stamp = r.stamp;
-    Sought::Away(q, stamp)
+    Ok(Sought::Away(q, stamp))
 }
 
 // 01, Refusals, 9; Read: a place on the missing drive: its segment is looked up once, for its faults and for the decode.
 fn seek_away(
-    p: Params,
-    image: &[u8],
-    pointers: &[u8],
-    offline: &[u8],
+    drives: &Drives<'_>,
     gone: u8,
     compact: &[u8],
     q: Place,
     bytes: &mut [usize],
-) -> Sought
-    requires p_value { in_range p ≡ true }
-    requires whole { Whole p (mk_disk image.now pointers.now) × (length offline.now ≡ offline_len p) × Here p gone }
-    requires compact_len { (length compact.now ≡ compact_len p) × (length bytes.old ≡ 8) }
-    ensures { SeeksAll p image.now (view_of p offline.now image.now pointers.now) gone compact.now (away q.0) result bytes.new }
+) -> Result<Sought, Refusal>
+    requires here { Here drives.now.p gone }
+    requires compact_len { (length compact.now ≡ compact_len drives.now.p) × (length bytes.old ≡ 8) }
+    ensures { SeeksAll drives.now.p drives.now.image.now (viewed drives.now) gone compact.now (away q.0) result bytes.new }
 {
-    let held = disk_holders::place_held(p, image, pointers, offline, gone, q);
-    match held {
-        Held::Nothing => Sought::Bad(Answer::BadZone(0)),
-        Held::One(serial) => {
-            let zone = mem_lookup::held_fault(p, pointers, gone, q, held);
-            if zone < p.Z {
-                return Sought::Bad(Answer::BadZone(zone as u64));
-            }
-            seek_lost(p, image, pointers, offline, gone, compact, q, serial, bytes)
-        }
+    let held = disk_holders::place_held(drives, gone, q);
+    let Some(serial) = held else {
+        return Err(Refusal::BadZone(0));
+    };
+    if let Some(zone) = mem_lookup::held_fault(drives.p, drives.pointers, gone, q, held) {
+        return Err(Refusal::BadZone(zone as u64));
     }
+    seek_lost(drives, gone, compact, q, serial, bytes)
 }
 
 // 01, Refusals, 9; Read: a place on a present drive: the stamp by footer or spare.
-fn seek_here(p: Params, image: &[u8], pointers: &[u8], offline: &[u8], gone: u8, q: Place) -> Sought
-    requires p_value { in_range p ≡ true }
-    requires whole { Whole p (mk_disk image.now pointers.now) × (length offline.now ≡ offline_len p) × Here p gone }
-    requires q_value { is_in gone (place_drive p q.0) ≡ false }
-    ensures { (cs : List ℕ) (bs : List ℕ) → SeeksAll p image.now (view_of p offline.now image.now pointers.now) gone cs (here q.0) result bs }
+fn seek_here(drives: &Drives<'_>, gone: u8, q: Place) -> Result<Sought, Refusal>
+    requires here { Here drives.now.p gone }
+    requires q_value { is_in gone (place_drive drives.now.p q.0) ≡ false }
+    ensures { (cs : List ℕ) (bs : List ℕ) → SeeksAll drives.now.p drives.now.image.now (viewed drives.now) gone cs (here q.0) result bs }
 {
-    let zone = mem_lookup::place_fault(p, image, pointers, offline, gone, q);
-    if zone < p.Z {
-        return Sought::Bad(Answer::BadZone(zone as u64));
+    if let Some(zone) = mem_lookup::place_fault(drives, gone, q) {
+        return Err(Refusal::BadZone(zone as u64));
     }
-    let r = disk_holders::held_record(p, image, pointers, offline, gone, q);
+    let r = disk_holders::held_record(drives, gone, q);
     let stamp = r.stamp;
-    Sought::Here(q, stamp)
+    Ok(Sought::Here(q, stamp))
 }
 
 // 01, Read: what lies there.
 fn seek_found(
-    p: Params,
-    image: &[u8],
-    pointers: &[u8],
-    offline: &[u8],
+    drives: &Drives<'_>,
     gone: u8,
     compact: &[u8],
     f: Found,
     bytes: &mut [usize],
-) -> Sought
-    requires p_value { in_range p ≡ true }
-    requires whole { Whole p (mk_disk image.now pointers.now) × (length offline.now ≡ offline_len p) × Here p gone }
-    requires compact_len { (length compact.now ≡ compact_len p) × (length bytes.old ≡ 8) × Sorted p gone (found_of f) }
-    ensures { SeeksAll p image.now (view_of p offline.now image.now pointers.now) gone compact.now (found_of f) result bytes.new }
+) -> Result<Sought, Refusal>
+    requires here { Here drives.now.p gone }
+    requires compact_len { (length compact.now ≡ compact_len drives.now.p) × (length bytes.old ≡ 8) × Sorted drives.now.p gone (found_of f) }
+    ensures { SeeksAll drives.now.p drives.now.image.now (viewed drives.now) gone compact.now (found_of f) result bytes.new }
 {
     match f {
-        Found::Nowhere => Sought::Never,
-        Found::Here(q) => seek_here(p, image, pointers, offline, gone, q),
-        Found::Away(q) => seek_away(p, image, pointers, offline, gone, compact, q, bytes),
+        Found::Nowhere => Ok(Sought::Never),
+        Found::Here(q) => seek_here(drives, gone, q),
+        Found::Away(q) => seek_away(drives, gone, compact, q, bytes),
     }
 }
 
@@ -306,36 +278,42 @@ fn seek(
     address: Address,
     len: usize,
     bytes: &mut [usize],
-) -> Sought
+) -> Result<Sought, Refusal>
     requires { (length state.now ≡ state_len) × (length bytes.old ≡ 8) }
-    ensures result_value { refused_by result
+    ensures result_value { checked result
         ≡ read_refusal p offline.now (mk_disk image.now pointers.now)
         (mk_memory (state_of state.now) addresses.now compact.now inflight.now) address.0 len }
     ensures gives { Gives p image.now (view_of p offline.now image.now pointers.now) (state_of state.now).missing compact.now
         (lies p (state_of state.now).missing addresses.now address.0) result bytes.new }
 {
     if !disk_shape::in_range(p) {
-        return Sought::Bad(Answer::Refused(1));
+        return Err(Refusal::Range);
     }
-    if !mem_calls::lent_ok(p, offline, image, pointers, addresses, compact, inflight) {
-        return Sought::Bad(Answer::Refused(2));
-    }
+    mem_calls::lent_ok(p, offline, image, pointers, addresses, compact, inflight)?;
     if len != p.B {
-        return Sought::Bad(Answer::Refused(2));
+        return Err(Refusal::Lengths);
     }
-    let rule = mem_calls::list_rule(p, offline);
-    if rule != 0 {
-        return Sought::Bad(Answer::Refused(rule));
-    }
+    mem_calls::list_rule(p, offline)?;
     if p.L as u64 <= address.0 {
-        return Sought::Bad(Answer::Refused(4));
+        return Err(Refusal::Address);
     }
     if !mem_bounds::state_ok(p, state) {
-        return Sought::Bad(Answer::BadZone(0));
+        return Err(Refusal::BadZone(0));
     }
     let gone = mem_bounds::missing(state);
     let f = mem_lookup::lies(p, gone, addresses, address.0 as usize);
-    seek_found(p, image, pointers, offline, gone, compact, f, bytes)
+    seek_found(
+        &Drives {
+            p,
+            image,
+            pointers,
+            offline,
+        },
+        gone,
+        compact,
+        f,
+        bytes,
+    )
 }
 
 // ---- the two calls
@@ -364,10 +342,10 @@ pub fn find(
         p, offline, image, pointers, addresses, compact, inflight, state, address, b, &mut bytes,
     );
     match sought {
-        Sought::Bad(answer) => answer,
-        Sought::Never => Answer::Never,
-        Sought::Here(q, t) => Answer::Part(disk_shape::place_byte(p, q) as u64, t),
-        Sought::Away(_, t) => Answer::Lost(t),
+        Err(why) => Answer::from(why),
+        Ok(Sought::Never) => Answer::Never,
+        Ok(Sought::Here(q, t)) => Answer::Part(disk_shape::place_byte(p, q) as u64, t),
+        Ok(Sought::Away(_, t)) => Answer::Lost(t),
     }
 }
 
@@ -451,16 +429,16 @@ pub fn fill(
         p, offline, image, pointers, addresses, compact, inflight, state, address, n, &mut bytes,
     );
     match sought {
-        Sought::Bad(answer) => answer,
-        Sought::Never => {
+        Err(why) => Answer::from(why),
+        Ok(Sought::Never) => {
             disk_blocks::clear(block);
             Answer::Filled(Stamp(0))
         }
-        Sought::Here(q, t) => {
+        Ok(Sought::Here(q, t)) => {
             fill_here(p, image, q, block);
             Answer::Filled(t)
         }
-        Sought::Away(q, stamp) => {
+        Ok(Sought::Away(q, stamp)) => {
             let gone = mem_bounds::missing(state);
             fill_lost(p, image, gone, q, &bytes, block);
             Answer::Filled(stamp)

@@ -1,5 +1,5 @@
 -- The ends of a rebuild: refused, cut, done (01, Rebuild; Store count). Assumes nothing.
-use Rattle.std.specs.Prelude.{◌≡◌, Bool, true, false, ℕ, ◌≤◌, ◌<◌, length, get_or, take, replicate}
+use Rattle.std.specs.Prelude.{Result, ◌≡◌, Bool, true, false, ℕ, ◌≤◌, ◌<◌, length, get_or, take, replicate}
 use Rattle.std.proofs.Math.Path.{sym}
 use Rattle.std.proofs.Common.{ap, ◌∙◌, subst}
 use mathlib.Core.List.{List, []}
@@ -30,8 +30,9 @@ use Rattle.law_drives.specs.Rebuilding.{rebuild_roomy, rebuild_within}
 use Rattle.law_drives.specs.Segs.{Here}
 use Rattle.law_drives.specs.Zones.{all_fit}
 use Rattle.disk_gather.specs.Flags.{Keeps, Serials, FlagsRows}
-use Rattle.disk_zones.specs.declared.Made.{Made}
-use Rattle.disk_zones.specs.Made.{Storing, storing_cut, storing_done}
+use Rattle.disk_zones.specs.declared.TooFew.{TooFew}
+use Rattle.std.specs.Result.{is_err}
+use Rattle.disk_zones.specs.Made.{Storing, storing_short, storing_enough}
 use Rattle.call_write.specs.Ends.{cut_memory_lem}
 use Rattle.call_rebuild.specs.Order.{rebuild_refusal, RebuildReady, rebuild_front, rebuild_front_passed}
 use Rattle.recover_rebuild.specs.Drive.{drive_stores, drive_stores_are, RowsApart, drive_rows_apart, GoodZones, good_zones_holds, GoodRecs, good_recs}
@@ -107,22 +108,22 @@ module _ (p : Params) (off : List ℕ) (k : Disk) (m : Memory) (d n : ℕ) where
     unfolding rebuild_refusal call_disk call_on store_count lent_block verdict rebuild_verdict
     done! h = sym (call_done p (store_disk p) n k m [] (first_refusal (rebuild_checks p (lent_ok_of p off k m) (seen p off k) m d left!)) due! e h)
 
-    module _ (r : Made) (k' : Disk) (ss : List Store) (q : ss ≡ rebuild_stores p (seen p off k) d (segments p (seen p off k) (named d))) (s : Storing p n ss k r k') where
+    module _ (r : Result ℕ TooFew) (k' : Disk) (ss : List Store) (q : ss ≡ rebuild_stores p (seen p off k) d (segments p (seen p off k) (named d))) (s : Storing p n ss k r k') where
       rebuild_made : Storing p n stores! k r k'
       rebuild_made = subst (λ (l : List Store). Storing p n l k r k') q s
 
       -- more stores are due than the number
-      pub ends_rebuild_cut : r.cut ≡ true → lent_ok_of p off k m ≡ true → (o : Done) (ad co : List ℕ) → o.answer ≡ Cut → o.state ≡ zero_state
+      pub ends_rebuild_cut : is_err r ≡ true → lent_ok_of p off k m ≡ true → (o : Done) (ad co : List ℕ) → o.answer ≡ Cut → o.state ≡ zero_state
           → ad ≡ replicate (length m.addresses) 0
           → co ≡ replicate (length m.compact) 0 → after o k'.image k'.pointers ad co m.inflight [] ≡ call_disk p off k m (rebuild d n)
       ends_rebuild_cut c l o ad co ea es f g =
           let w = lengths_of p off k m l in
           let x : mk_memory o.state ad co m.inflight ≡ cut_memory p m = cut_memory_lem p m o.state ad co w.addresses_ok w.compact_ok es f g in
-          (λ j. mk_after (ea j) (rebuild_made.disk j) (x j) []) ∙ cut! (storing_cut p n stores! k r k' rebuild_made c)
+          (λ j. mk_after (ea j) (rebuild_made.disk j) (x j) []) ∙ cut! (storing_short p n stores! k r k' rebuild_made c)
 
       -- all are made: state and tables don't change
-      pub ends_rebuild_done : r.cut ≡ false → mk_after Rebuilt k' m [] ≡ call_disk p off k m (rebuild d n)
-      ends_rebuild_done c = (λ j. mk_after Rebuilt (rebuild_made.disk j) m []) ∙ done! (storing_done p n stores! k r k' rebuild_made c)
+      pub ends_rebuild_done : is_err r ≡ false → mk_after Rebuilt k' m [] ≡ call_disk p off k m (rebuild d n)
+      ends_rebuild_done c = (λ j. mk_after Rebuilt (rebuild_made.disk j) m []) ∙ done! (storing_enough p n stores! k r k' rebuild_made c)
 
 -- no segment of 9 is bad: nothing refuses
 pub rebuild_faultless : (p : Params) (off : List ℕ) (k : Disk) (m : Memory) (d : ℕ) → rebuild_front p off k m d ≡ none

@@ -1,8 +1,8 @@
 -- The checks of a rebuild one after the other: each refuses, or leaves it to the next (01, Refusals). Assumes nothing.
 use Rattle.std.proofs.Math.Path.{◌≡◌, refl, sym}
-use Rattle.std.proofs.Common.{ap, ◌∙◌, subst, ltb-true, eqb-true}
+use Rattle.std.proofs.Common.{ap, ◌∙◌, ltb-true, eqb-true}
 use mathlib.Core.List.{List, [], ◌∷◌, ◌++◌}
-use Rattle.std.specs.Prelude.{Bool, cond, ◌&&◌, ◌||◌, ℕ, ◌<◌, ltb, eqb}
+use Rattle.std.specs.Prelude.{Option, Some, None, Bool, cond, ◌&&◌, ◌||◌, ℕ, ◌<◌, ltb, eqb}
 use Rattle.std.proofs.Math.Bool.{true, false, not}
 use Rattle.std.proofs.lemmas.Bool.{not-false}
 use native.Mathlib.Omega.{arith}
@@ -21,13 +21,15 @@ use Rattle.spec.specs.Params.{in_range, capacity, named, present}
 use Rattle.spec.specs.Rebuild.{names_missing, rebuild_checks}
 use Rattle.spec.specs.Segments.{segments}
 use Rattle.spec.specs.Write.{list_rules}
-use Rattle.law_basic.specs.Ranges.{and_left, and_right}
+use Rattle.law_basic.specs.Ranges.{and_left, and_right, nil_is}
 use Rattle.law_views.specs.Alike.{seen_offline}
 use Rattle.law_views.specs.Views.{seen}
 use Rattle.mem_calls.specs.Listed.{list_rule_of, list_fails, list_passes}
 use Rattle.law_calls.specs.Refusals.{rule_fails, rule_passes, zones_pass, none_left, rule_free, zones_free}
 use Rattle.law_drives.specs.Tests.{or_first, or_right}
-use Rattle.recover_headers.specs.Lowest.{low_none, low-named}
+use Rattle.recover_headers.specs.Lowest.{low-named}
+use Rattle.disk_gather.specs.Ranges.{opt_first, opt_first_or, opt_first_none, opt_first_low}
+use Rattle.std.specs.Option.{unwrap_or, is_none}
 
 -- 01, Refusals, 1: the parameters, and the drive that the last restart named missing
 unfoldable pub bad_numbers : Params → ℕ → ℕ → Bool
@@ -77,21 +79,21 @@ module _ (p : Params) (off : List ℕ) (k : Disk) (m : Memory) (d : ℕ) where
     rebuild_lengths_fail f =
         sym (rule_passes 1 (bad_numbers p m.state.missing d) (rule 2 (not (lent_ok_of p off k m)) ∷ behind) e ∙ rule_fails 2 (not (lent_ok_of p off k m)) behind (ap not f))
 
-    module _ (f : lent_ok_of p off k m ≡ true) (r : ℕ) (is : r ≡ list_rule_of p off) where
+    module _ (f : lent_ok_of p off k m ≡ true) where
       order_fitting : rebuild_front ≡ first_refusal (list_rules p (seen p off k) ++ (zones high_pointers ∷ []))
       order_fitting = unfold rebuild_front in
           (rule_passes 1 (bad_numbers p m.state.missing d) (rule 2 (not (lent_ok_of p off k m)) ∷ behind) e ∙ rule_passes 2 (not (lent_ok_of p off k m)) behind (ap not f))
 
-      -- 02, item 4: r is what `list_rule` answers
-      is_rule : r ≡ list_rule_of p (seen p off k).offline
-      is_rule = is ∙ ap (list_rule_of p) (sym (seen_offline p off k))
+      -- 02, item 4
+      is_rule : list_rule_of p off ≡ list_rule_of p (seen p off k).offline
+      is_rule = ap (list_rule_of p) (sym (seen_offline p off k))
 
-      pub rebuild_list_fails : (r ≡ 0 → ⊥) → some (Refused r) ≡ rebuild_front
-      rebuild_list_fails n = sym (order_fitting ∙ list_fails p (seen p off k) (zones high_pointers ∷ []) r is_rule n)
+      pub rebuild_list_fails : (r : Answer) → some r ≡ list_rule_of p off → some r ≡ rebuild_front
+      rebuild_list_fails r n = list_fails p (seen p off k) (zones high_pointers ∷ []) r (n ∙ is_rule) ∙ sym order_fitting
 
-      module _ (c : r ≡ 0) where
+      module _ (c : none ≡ list_rule_of p off) where
         passed : rebuild_front ≡ first_refusal (zones high_pointers ∷ [])
-        passed = order_fitting ∙ list_passes p (seen p off k) (zones high_pointers ∷ []) r is_rule c
+        passed = order_fitting ∙ list_passes p (seen p off k) (zones high_pointers ∷ []) (c ∙ is_rule)
 
         abbrev high : ℕ → Bool
         high z = any (λ y. is_good p (seen p off k).offline y z && ltb (capacity p) (pointer_at (seen p off k) y z)) (present p (named d))
@@ -99,12 +101,14 @@ module _ (p : Params) (off : List ℕ) (k : Disk) (m : Memory) (d : ℕ) where
         range : high_pointers ≡ keep high (below p.Z)
         range = unfold pointer_faults in refl
 
-        pub rebuild_pointers_fail : (z : ℕ) → z ≡ first_or p.Z high_pointers → z < p.Z → some (BadZone z) ≡ rebuild_front
-        rebuild_pointers_fail z q h =
-            ap (λ (x : ℕ). some (BadZone x)) q ∙ sym (passed ∙ low-named high p.Z high_pointers range [] (subst (λ (x : ℕ). x < p.Z) q h))
+        pub rebuild_pointers_fail : (z : ℕ) → Some z ≡ opt_first high_pointers → some (BadZone z) ≡ rebuild_front
+        rebuild_pointers_fail z e =
+            let q : first_or p.Z high_pointers ≡ z = sym (opt_first_or p.Z high_pointers) ∙ ap (λ (o : Option ℕ). unwrap_or o p.Z) (sym e) in
+            let h : z < p.Z = opt_first_low high p.Z z (ap opt_first (sym range) ∙ sym e) in
+            sym (passed ∙ low-named high p.Z high_pointers range [] (omega arith) ∙ ap (λ (x : ℕ). some (BadZone x)) q)
 
-        pub rebuild_pointers_pass : first_or p.Z high_pointers ≡ p.Z → none ≡ rebuild_front
-        rebuild_pointers_pass q = sym (passed ∙ zones_pass high_pointers [] (low_none high p.Z high_pointers range q) ∙ none_left)
+        pub rebuild_pointers_pass : None ≡ opt_first high_pointers → none ≡ rebuild_front
+        rebuild_pointers_pass e = sym (passed ∙ zones_pass high_pointers [] (nil_is high_pointers (sym (opt_first_none high_pointers) ∙ ap is_none (sym e))) ∙ none_left)
 
   -- ---- they are the first of all
 

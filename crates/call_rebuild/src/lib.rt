@@ -15,7 +15,8 @@ ghost use Rattle.spec.specs.Segments.{segments};
 ghost use Rattle.call_rebuild.specs.Ends.{EndsGathered};
 ghost use Rattle.call_rebuild.specs.Order.{bad_numbers, rebuild_front};
 
-use mem_calls::Check;
+use disk_drives::Drives;
+use mem_calls::Refusal;
 use spec::{Answer, Done, Params, State};
 
 // 01, Refusals, 1: the drive that the last restart named missing.
@@ -49,26 +50,21 @@ fn checks(
     inflight: &[u8],
     state: State,
     drive: usize,
-) -> Check
+) -> Result<(), Refusal>
     ensures { checked result
         ≡ rebuild_front p offline.now (mk_disk image.now pointers.now)
         (mk_memory state addresses.now compact.now inflight.now) drive }
 {
     if bad_numbers(p, state.missing, drive) {
-        return Check::Fail(Answer::Refused(1));
+        return Err(Refusal::Range);
     }
-    if !mem_calls::lent_ok(p, offline, image, pointers, addresses, compact, inflight) {
-        return Check::Fail(Answer::Refused(2));
+    mem_calls::lent_ok(p, offline, image, pointers, addresses, compact, inflight)?;
+    mem_calls::list_rule(p, offline)?;
+    let gone = bits_masks::only_drive(drive);
+    if let Some(zone) = recover_headers::pointer_fault(p, pointers, offline, gone) {
+        return Err(Refusal::BadZone(zone as u64));
     }
-    let rule = mem_calls::list_rule(p, offline);
-    if rule != 0 {
-        return Check::Fail(Answer::Refused(rule));
-    }
-    let z = recover_headers::pointer_fault(p, pointers, offline, bits_masks::only_drive(drive));
-    if z < p.Z {
-        return Check::Fail(Answer::BadZone(z as u64));
-    }
-    Check::Pass
+    Ok(())
 }
 
 // 01, Rebuild: the stores, once no check holds; by zone of the lowest present drive, kept flags the segments that remain, with their serials and rows.
@@ -99,7 +95,7 @@ fn restore(
     let made = recover_rebuild::rebuild_stores(
         p, image, pointers, offline, gone, kept, serials, rows, drive, count,
     );
-    if made.cut {
+    if made.is_err() {
         return mem_calls::cut(addresses, compact);
     }
     Done {
@@ -131,18 +127,21 @@ fn examined(
     let mut serials = [0u64; 1024];
     let mut flags = [false; 1024];
     let mut kept = [false; 1024];
-    disk_gather::gather(
+    let drives = Drives {
         p,
         image,
         pointers,
         offline,
+    };
+    disk_gather::gather(
+        &drives,
         gone,
         &mut rows,
         &mut serials,
         &mut flags,
         &mut kept,
     );
-    let e = recover_check::examine(p, image, pointers, offline, gone, &kept, &serials, &rows);
+    let e = recover_check::examine(&drives, gone, &kept, &serials, &rows);
     if e.zone < p.Z {
         return Done {
             answer: Answer::BadZone(e.zone as u64),
@@ -172,11 +171,13 @@ pub fn rebuild(
         ≡ call_disk p offline.now (mk_disk image.old pointers.old)
         (mk_memory state addresses.old compact.old inflight.now) (rebuildCall drive count) }
 {
-    let c = checks(
+    if let Err(why) = checks(
         p, offline, image, pointers, addresses, compact, inflight, state, drive,
-    );
-    if let Check::Fail(answer) = c {
-        return Done { answer, state };
+    ) {
+        return Done {
+            answer: Answer::from(why),
+            state,
+        };
     }
     examined(
         p, offline, image, pointers, addresses, compact, inflight, state, drive, count,

@@ -1,10 +1,10 @@
 -- The checks of reclaim one after the other, and what it then does (01, Refusals; Reclaim). Assumes nothing.
-use Rattle.std.specs.Prelude.{ℕ, suc, ◌*◌, min, ◌<◌, eqb, length, drop, Bool, ◌&&◌, ◌||◌, ◌≡◌}
+use Rattle.std.specs.Prelude.{Option, Some, None, ℕ, suc, ◌*◌, ◌<◌, eqb, length, drop, Bool, ◌&&◌, ◌||◌, ◌≡◌}
 use Rattle.spec.specs.Calls.{Check, ninth, ruled, first_refusal}
 use Rattle.spec.specs.Calls.Check.{rule, zones}
 use Rattle.spec.specs.Drives.{View, view_of, Disk}
 use Rattle.spec.specs.Engine.{lent_ok_of}
-use Rattle.spec.specs.Lists.{Opt, cons_if, keep, is_nil, least, first_or}
+use Rattle.spec.specs.Lists.{Opt, cons_if, keep, is_nil, first_or}
 use Rattle.spec.specs.Lists.Opt.{none, some}
 use Rattle.spec.specs.Memory.{Memory, state_ok, state_faults}
 use Rattle.spec.specs.Params.{in_range, capacity, place_zone}
@@ -16,17 +16,15 @@ use Rattle.spec.specs.declared.Answer.TheVariants.{Refused, BadZone}
 use Rattle.spec.specs.declared.Params.{Params}
 use Rattle.spec.specs.declared.Seg.{Seg}
 use Rattle.spec.specs.declared.State.{State}
-use Rattle.law_basic.specs.Geometry.{Ranged, zone_low}
-use Rattle.law_basic.specs.Ranges.{keep_none, nil_is, least-le}
+use Rattle.law_basic.specs.Ranges.{keep_none, nil_is}
 use Rattle.law_basic.specs.Segs.{ZonesLow}
 use Rattle.law_calls.specs.Refusals.{or_next, refusal_append, zones_pass, none_left, state_fault, state_fine, rule_fails, rule_passes, least_zero}
-use Rattle.law_drives.specs.Members.{In, map_in}
 use Rattle.mem_calls.specs.Listed.{list_rule_of, list_fails, list_passes}
-use Rattle.call_reclaim.specs.declared.Choice.{Choice}
-use Rattle.call_reclaim.specs.declared.Choice.TheVariants.{Refuse, Clear, Copy}
-use Rattle.call_reclaim_victim.specs.Waiting.{is_odd, odd_zone}
+use Rattle.call_reclaim.specs.declared.Picked.{Picked}
+use Rattle.call_reclaim.specs.declared.Picked.TheVariants.{Clear, Copy}
+use Rattle.call_reclaim_victim.specs.Waiting.{is_odd, lowest, odd_zone}
 use Rattle.law_views.specs.Views.{seen}
-use Rattle.std.proofs.Common.{eq-eqb, ne_eqb, inl, ◌∙◌, subst, arith}
+use Rattle.std.proofs.Common.{eq-eqb, ne_eqb, ◌∙◌, arith}
 use Rattle.std.proofs.Math.Bool.{true, false, cond, not}
 use mathlib.Core.List.{List, [], ◌∷◌, ◌++◌, map}
 use Rattle.std.proofs.Math.Path.{refl, sym, ap, ap₂}
@@ -49,17 +47,15 @@ later_checks p v st tb w =
     rule 5 (is_none w || (must_copy w && is_nil (idle p v st w))) ∷ rule 6 (must_copy w && no_serial p st)
     ∷ room_rules copy_order (copy_waits p st w) (copy_full p v st w) ++ (zones (bad_zones p v st tb w) ∷ [])
 
--- what the code chooses, where r is the first refusal, w the segment and g what the code has of it: refuses so, resets it, or copies the first of its live blocks not in flight
-abbrev pub Chose : Params → View → State → Opt Victim → Opt Answer → Seg → Choice → Type 0
-Chose p v st w r g (Refuse a) = r ≡ some a
-Chose p v st w r g Clear = (r ≡ none) × (is_nil (victim_live w) ≡ true) × (victim_segment w ≡ g) × ZonesLow p 0 g
-Chose p v st w r g (Copy q) =
-    (r ≡ none) × (is_nil (victim_live w) ≡ false) × (first_or 0 (idle p v st w) ≡ q.0) × (q.0 < p.N * p.Z * capacity p) × (is_odd p q.0 ≡ false)
-    × (place_segment p v 0 q.0 ≡ g) × ZonesLow p 0 g
+-- the block at q is copied, the first of w's live blocks not in flight; g is what the code has of the segment
+abbrev pub CopyAt : Params → View → State → Opt Victim → Seg → ℕ → Type 0
+CopyAt p v st w g q =
+    (is_nil (victim_live w) ≡ false) × (first_or 0 (idle p v st w) ≡ q) × (q < p.N * p.Z * capacity p) × (is_odd p q ≡ false) × (place_segment p v 0 q ≡ g) × ZonesLow p 0 g
 
--- a refusal
-pub refused_so : (p : Params) (v : View) (st : State) (w : Opt Victim) (r : Opt Answer) (g : Seg) (x : Choice) (a : Answer) → x ≡ Refuse a → r ≡ some a → Chose p v st w r g x
-refused_so p v st w r g x a e h = subst (Chose p v st w r g) (sym e) h
+-- what the code chooses where no check holds: to reset the segment w, or to copy a block of it
+abbrev pub Chose : Params → View → State → Opt Victim → Picked → Type 0
+Chose p v st w (Clear g) = (is_nil (victim_live w) ≡ true) × (victim_segment w ≡ g) × ZonesLow p 0 g
+Chose p v st w (Copy g q) = CopyAt p v st w g q.0
 
 -- ---- the first checks
 
@@ -87,18 +83,18 @@ module _ (p : Params) (off : List ℕ) (k : Disk) (m : Memory) where
   unfolding reclaim_checks_in
   reclaim_lengths_fail e = rule_fails 2 (not (lent_ok_of p off k m)) (rest 1) (ap not e)
 
-  pub reclaim_lengths_pass : lent_ok_of p off k m ≡ true → reclaim_from 1 ≡ reclaim_from 2
+  reclaim_lengths_pass : lent_ok_of p off k m ≡ true → reclaim_from 1 ≡ reclaim_from 2
   unfolding reclaim_checks_in
   reclaim_lengths_pass e = rule_passes 2 (not (lent_ok_of p off k m)) (rest 1) (ap not e)
 
-  -- 02, item 4: r is what `list_rule` answers
-  pub reclaim_list_fails : (r : ℕ) → r ≡ list_rule_of p off → (r ≡ 0 → ⊥) → reclaim_from 2 ≡ some (Refused r)
+  -- 02, item 4
+  pub reclaim_list_fails : (r : Answer) → some r ≡ list_rule_of p off → reclaim_from 2 ≡ some r
   unfolding reclaim_checks_in view_of
-  reclaim_list_fails r e f = list_fails p (seen p off k) (rest 3) r e f
+  reclaim_list_fails r e = sym (list_fails p (seen p off k) (rest 3) r e)
 
-  pub reclaim_list_passes : (r : ℕ) → r ≡ list_rule_of p off → r ≡ 0 → reclaim_from 2 ≡ reclaim_from 4
+  reclaim_list_passes : none ≡ list_rule_of p off → reclaim_from 2 ≡ reclaim_from 4
   unfolding reclaim_checks_in view_of
-  reclaim_list_passes r e f = list_passes p (seen p off k) (rest 3) r e f
+  reclaim_list_passes e = list_passes p (seen p off k) (rest 3) e
 
   pub reclaim_missing_fails : (m.state.missing ≡ 0 → ⊥) → reclaim_from 4 ≡ some (Refused 3)
   unfolding reclaim_checks_in
@@ -113,14 +109,18 @@ module _ (p : Params) (off : List ℕ) (k : Disk) (m : Memory) where
   unfolding reclaim_checks_in later_checks bad_zones is_odd
   from_later = refl
 
-  -- 1, 2, 10 and the narrow 1 pass
-  pub list_done : in_range p ≡ true → lent_ok_of p off k m ≡ true → (r : ℕ) → r ≡ list_rule_of p off → r ≡ 0 → reclaim_from 0 ≡ reclaim_from 4
-  list_done e f r g h = reclaim_range_passes e ∙ reclaim_lengths_pass f ∙ reclaim_list_passes r g h
+  -- 1 and 2 pass
+  pub reclaim_lent : in_range p ≡ true → lent_ok_of p off k m ≡ true → reclaim_from 0 ≡ reclaim_from 2
+  reclaim_lent e f = reclaim_range_passes e ∙ reclaim_lengths_pass f
+
+  -- and 10 and the narrow 1
+  pub list_done : in_range p ≡ true → lent_ok_of p off k m ≡ true → none ≡ list_rule_of p off → reclaim_from 0 ≡ reclaim_from 4
+  list_done e f g = reclaim_lent e f ∙ reclaim_list_passes g
 
   -- and 3
-  pub front_passes : in_range p ≡ true → lent_ok_of p off k m ≡ true → (r : ℕ) → r ≡ list_rule_of p off → r ≡ 0 → m.state.missing ≡ 0
+  pub front_passes : in_range p ≡ true → lent_ok_of p off k m ≡ true → none ≡ list_rule_of p off → m.state.missing ≡ 0
       → reclaim_refusal p off k m ≡ first_refusal (later_checks p (seen p off k) m.state m.addresses taken)
-  front_passes e f r g h i = list_done e f r g h ∙ reclaim_missing_passes i ∙ from_later
+  front_passes e f g i = list_done e f g ∙ reclaim_missing_passes i ∙ from_later
 
 -- ---- 6 to 8
 
@@ -145,6 +145,11 @@ module _ (p : Params) (v : View) (st : State) where
 
 -- ---- bad zones
 
+-- what a zone refuses, if there is one
+unfoldable pub zone_refusal : Option ℕ → Opt Answer
+zone_refusal None = none
+zone_refusal (Some z) = some (BadZone z)
+
 zero_first : (l : List ℕ) → first_refusal (zones (0 ∷ l) ∷ []) ≡ some (BadZone 0)
 unfolding first_refusal ninth
 zero_first l = ap (λ (n : ℕ). some (BadZone n)) (least_zero l)
@@ -162,24 +167,11 @@ module _ (p : Params) (v : View) (st : State) (tb zs : List ℕ) where
       go true = zero_first zs
       go false = refl
 
--- zones below n, the lowest of which is named
-least_zones : (n : ℕ) (zs : List ℕ) → ((z : ℕ) → In z zs → z < n) → first_refusal (zones zs ∷ []) ≡ cond (eqb (least n zs) n) none (some (BadZone (least n zs)))
-unfolding first_refusal ninth least
-least_zones n [] h = sym (ap (λ (b : Bool). cond b none (some (BadZone n))) (eq-eqb n n refl))
-least_zones n (z ∷ zs) h =
-    let l : z < n = h z (inl refl) in
-    let e : min n z ≡ z = omega arith in
-    let low : least (min n z) zs < n = omega (arith, e, least-le (min n z) zs) in
-    ap (λ (x : ℕ). some (BadZone (least x zs))) (sym e)
-    ∙ sym (ap (λ (b : Bool). cond b none (some (BadZone (least (min n z) zs)))) (ne_eqb (least (min n z) zs) n (λ c. omega (arith, low, c))))
-
 -- 01, Refusals, 9: live blocks that are no data blocks name their own zones
-pub odd_zones : (p : Params) → Ranged p → (l : List ℕ) (n : ℕ) → odd_zone p l ≡ n
-    → first_refusal (zones (map (place_zone p) (keep (is_odd p) l)) ∷ []) ≡ cond (eqb n 1024) none (some (BadZone n))
-unfolding odd_zone
-odd_zones p r l n e =
-    least_zones 1024 (map (place_zone p) (keep (is_odd p) l)) (λ z m. let (q, i, s) = map_in (place_zone p) (keep (is_odd p) l) z m in omega (arith, s, zone_low p r q, r.zones_high))
-    ∙ ap (λ (x : ℕ). cond (eqb x 1024) none (some (BadZone x))) e
+pub odd_zones : (zs : List ℕ) → first_refusal (zones zs ∷ []) ≡ zone_refusal (lowest zs)
+unfolding first_refusal ninth lowest zone_refusal
+odd_zones [] = refl
+odd_zones (z ∷ zs) = refl
 
 -- ---- from 5 on
 
@@ -233,11 +225,12 @@ module _ (p : Params) (v : View) (st : State) (tb : List ℕ) (w : Opt Victim) w
           ∙ refusal_append (copy_rules p v st) (zones (bad_zones p v st tb w) ∷ [])
 
 -- the zones, once neither state nor table is at fault
-pub zones_odd : (p : Params) → Ranged p → (v : View) (st : State) (tb : List ℕ) (w : Opt Victim) (fault : Bool) (odd : ℕ)
+pub zones_odd : (p : Params) (v : View) (st : State) (tb : List ℕ) (w : Opt Victim) (fault : Bool) (odd : Option ℕ)
     → ((zs : List ℕ) → first_refusal (zones (state_faults p st ++ table_faults p v tb ++ zs) ∷ []) ≡ cond fault (some (BadZone 0)) (first_refusal (zones zs ∷ [])))
-    → odd_zone p (victim_live w) ≡ odd → first_refusal (zones (bad_zones p v st tb w) ∷ []) ≡ cond fault (some (BadZone 0)) (cond (eqb odd 1024) none (some (BadZone odd)))
-unfolding bad_zones
-zones_odd p r v st tb w fault odd h o = h (map (place_zone p) (keep (is_odd p) (victim_live w))) ∙ ap (cond fault (some (BadZone 0))) (odd_zones p r (victim_live w) odd o)
+    → odd_zone p (victim_live w) ≡ odd → first_refusal (zones (bad_zones p v st tb w) ∷ []) ≡ cond fault (some (BadZone 0)) (zone_refusal odd)
+unfolding bad_zones odd_zone
+zones_odd p v st tb w fault odd h o = h (map (place_zone p) (keep (is_odd p) (victim_live w)))
+    ∙ ap (cond fault (some (BadZone 0))) (odd_zones (map (place_zone p) (keep (is_odd p) (victim_live w))) ∙ ap zone_refusal o)
 
 -- ---- lists
 
@@ -250,12 +243,6 @@ pub length_some : {A : Type 0} (l : List A) → 0 < length l → is_nil l ≡ fa
 unfolding is_nil
 length_some [] h = absurd (let q : ⊥ = omega arith in q)
 length_some (a ∷ l) h = refl
-
--- the first of a list, whatever stands for none
-pub first_found : (l : List ℕ) (d x : ℕ) → first_or d l ≡ x → (x ≡ d → ⊥) → first_or 0 l ≡ x
-unfolding first_or
-first_found [] d x e n = absurd (n (sym e))
-first_found (y ∷ l) d x e n = e
 
 pub no_zones : first_refusal (zones [] ∷ []) ≡ none
 no_zones = zones_pass [] [] refl ∙ none_left

@@ -1,7 +1,7 @@
 // Reclaim (01, Reclaim).
 #![tactic(auto)]
 
-ghost use Rattle.std.specs.Prelude.{◌≡◌, true, cond, ◌&&◌, List, [], ◌∷◌, ◌++◌, ℕ, ◌<◌, length};
+ghost use Rattle.std.specs.Prelude.{◌≡◌, true, cond, ◌&&◌, List, [], ◌∷◌, ◌++◌, ℕ, ◌<◌, length, IfOk};
 ghost use Rattle.mem_calls.specs.Left.{checked};
 ghost use Rattle.spec.specs.declared.Answer.TheVariants.{BadZone};
 ghost use Rattle.spec.specs.declared.State.{State as StateOf};
@@ -16,18 +16,18 @@ ghost use Rattle.spec.specs.Memory.{mk_memory, state_faults, state_len, state_of
 ghost use Rattle.spec.specs.Params.{in_range, image_len, pointers_len, offline_len, addresses_len, compact_len, drives_of};
 ghost use Rattle.spec.specs.Reclaim.{table_faults, victim, cleared, reset_plan};
 ghost use Rattle.spec.specs.Write.{scarce};
-ghost use Rattle.call_reclaim.specs.declared.Choice.TheVariants.{Refuse};
-ghost use Rattle.call_reclaim.specs.Choosing.{copy_rules, later_checks, Chose, reclaim_refusal};
+ghost use Rattle.call_reclaim.specs.Choosing.{copy_rules, later_checks, Chose, CopyAt, reclaim_refusal};
 ghost use Rattle.call_filling.specs.Aims.{aim_of};
 ghost use Rattle.mem_rows.specs.Rows.{front_of, behind, after_change};
 ghost use Rattle.call_reclaim_victim.specs.Looked.{Looked};
 ghost use Rattle.call_reclaim_victim.specs.Outside.{is_outside};
-ghost use Rattle.law_views.specs.Views.{Whole};
+ghost use Rattle.disk_drives.specs.Viewed.{viewed};
 ghost use Rattle.law_basic.specs.Segs.{ZonesLow};
 
 use call_filling::Aim;
 use call_reclaim_victim::Chosen;
-use mem_calls::Check;
+use disk_drives::Drives;
+use mem_calls::Refusal;
 use mem_rows::{Change, Front};
 use spec::{Answer, Params, Place, Seg, State};
 
@@ -46,7 +46,7 @@ fn copy_full(p: Params, pointers: &[u8], offline: &[u8], a: Aim) -> bool
 }
 
 // 01, Refusals, 6 to 8, of a copy; 02, item 3: full before waiting. f, a: the front of the state and where a block goes.
-fn copy_rules(p: Params, pointers: &[u8], offline: &[u8], f: Front, a: Aim) -> Check
+fn copy_rules(p: Params, pointers: &[u8], offline: &[u8], f: Front, a: Aim) -> Result<(), Refusal>
     requires p_value { in_range p ≡ true }
     requires pointers_len { (length pointers.now ≡ pointers_len p) × (length offline.now ≡ offline_len p) × (a ≡ aim_of p (behind f)) }
     ensures { (st : StateOf) (im : List ℕ)
@@ -55,17 +55,17 @@ fn copy_rules(p: Params, pointers: &[u8], offline: &[u8], f: Front, a: Aim) -> C
         → checked result ≡ first_refusal (copy_rules p (view_of p offline.now im pointers.now) st) }
 {
     if call_filling::no_serial(f, a) {
-        return Check::Fail(Answer::Refused(6));
+        return Err(Refusal::NoCount);
     }
     let full = copy_full(p, pointers, offline, a);
     let wait = call_filling::must_wait(p, f, a);
     if full {
-        return Check::Fail(Answer::Refused(8));
+        return Err(Refusal::Full);
     }
     if wait {
-        return Check::Fail(Answer::Refused(7));
+        return Err(Refusal::Wait);
     }
-    Check::Pass
+    Ok(())
 }
 
 // 01, Refusals, 9: a state number out of range, or a place of the table that is no place of the image; both name zone 0.
@@ -83,68 +83,40 @@ fn has_fault(p: Params, bytes: &[u8], outside: bool) -> bool
     outside
 }
 
-// What reclaim does: refuse, reset a segment, or copy the block at a place of a segment.
+// What reclaim does: reset a segment's zones, or copy the block at a place of a segment.
 #[derive(Clone, Copy)]
-pub enum Choice {
-    Refuse(Answer),
-    Clear,
-    Copy(Place),
-}
-
-// The same with the segment.
-#[derive(Clone, Copy)]
-pub struct Picked {
-    pub choice: Choice,
-    pub segment: Seg,
-}
-
-// A refusal has no segment.
-fn refuse(answer: Answer) -> Picked
-    ensures { result.choice ≡ Refuse answer }
-{
-    Picked {
-        choice: Choice::Refuse(answer),
-        segment: Seg { zones: [0; 8] },
-    }
+pub enum Picked {
+    Clear(Seg),
+    Copy(Seg, Place),
 }
 
 // The checks from 5 on, of a segment with live blocks.
 fn choose_copy(
-    p: Params,
-    image: &[u8],
-    pointers: &[u8],
-    offline: &[u8],
+    drives: &Drives<'_>,
     addresses: &[u8],
     bytes: &[u8],
     f: Front,
     a: Aim,
     seen: Chosen,
-) -> Choice
-    requires p_value { in_range p ≡ true }
-    requires whole { Whole p (mk_disk image.now pointers.now) × (length offline.now ≡ offline_len p) }
-    requires f_value { (f ≡ front_of (state_of bytes.now)) × (a ≡ aim_of p (state_of bytes.now)) × (length bytes.now ≡ state_len) }
-    requires looked { Looked p (view_of p offline.now image.now pointers.now) addresses.now (state_of bytes.now) seen × (seen.zone < p.Z) × (0 < seen.live) }
-    ensures { Chose p (view_of p offline.now image.now pointers.now) (state_of bytes.now)
-        (victim p (view_of p offline.now image.now pointers.now) addresses.now)
-        (first_refusal (later_checks p (view_of p offline.now image.now pointers.now) (state_of bytes.now) addresses.now
-        (victim p (view_of p offline.now image.now pointers.now) addresses.now))) seen.segment result }
+) -> Result<Place, Refusal>
+    requires f_value { (f ≡ front_of (state_of bytes.now)) × (a ≡ aim_of drives.now.p (state_of bytes.now)) × (length bytes.now ≡ state_len) }
+    requires looked { Looked drives.now.p (viewed drives.now) addresses.now (state_of bytes.now) seen × (seen.zone < drives.now.p.Z) × (0 < seen.live) }
+    ensures check_value { checked result ≡ first_refusal (later_checks drives.now.p (viewed drives.now) (state_of bytes.now) addresses.now
+        (victim drives.now.p (viewed drives.now) addresses.now)) }
+    ensures copy_at { IfOk result (λ q. CopyAt drives.now.p (viewed drives.now) (state_of bytes.now)
+        (victim drives.now.p (viewed drives.now) addresses.now) seen.segment q.0) }
 {
-    let none = Place::NEVER;
-    let first = seen.first;
-    if first.0 == none.0 {
-        return Choice::Refuse(Answer::Refused(5));
+    let Some(first) = seen.first else {
+        return Err(Refusal::NotDue);
+    };
+    copy_rules(drives.p, drives.pointers, drives.offline, f, a)?;
+    if has_fault(drives.p, bytes, seen.outside) {
+        return Err(Refusal::BadZone(0));
     }
-    let c = copy_rules(p, pointers, offline, f, a);
-    if let Check::Fail(answer) = c {
-        return Choice::Refuse(answer);
+    if let Some(zone) = seen.odd {
+        return Err(Refusal::BadZone(zone as u64));
     }
-    if has_fault(p, bytes, seen.outside) {
-        return Choice::Refuse(Answer::BadZone(0));
-    }
-    if seen.odd != 1024 {
-        return Choice::Refuse(Answer::BadZone(seen.odd as u64));
-    }
-    Choice::Copy(first)
+    Ok(first)
 }
 
 // 01, Refusals: the checks of reclaim in order, and which plan it is.
@@ -160,42 +132,39 @@ fn choose(
     missing: u8,
     f: Front,
     a: Aim,
-) -> Picked
+) -> Result<Picked, Refusal>
     requires { (f ≡ front_of (state_of bytes.now)) × (a ≡ aim_of p (state_of bytes.now)) × (missing ≡ (state_of bytes.now).missing) × (length bytes.now ≡ state_len) }
-    ensures { Chose p (view_of p offline.now image.now pointers.now) (state_of bytes.now)
-        (victim p (view_of p offline.now image.now pointers.now) addresses.now)
-        (reclaim_refusal p offline.now (mk_disk image.now pointers.now)
-        (mk_memory (state_of bytes.now) addresses.now compact.now inflight.now)) result.segment result.choice }
+    ensures check_value { checked result ≡ reclaim_refusal p offline.now (mk_disk image.now pointers.now)
+        (mk_memory (state_of bytes.now) addresses.now compact.now inflight.now) }
+    ensures chosen { IfOk result (λ x. Chose p (view_of p offline.now image.now pointers.now) (state_of bytes.now)
+        (victim p (view_of p offline.now image.now pointers.now) addresses.now) x) }
 {
     if !disk_shape::in_range(p) {
-        return refuse(Answer::Refused(1));
+        return Err(Refusal::Range);
     }
-    if !mem_calls::lent_ok(p, offline, image, pointers, addresses, compact, inflight) {
-        return refuse(Answer::Refused(2));
-    }
-    let rule = mem_calls::list_rule(p, offline);
-    if rule != 0 {
-        return refuse(Answer::Refused(rule));
-    }
+    mem_calls::lent_ok(p, offline, image, pointers, addresses, compact, inflight)?;
+    mem_calls::list_rule(p, offline)?;
     if missing != 0 {
-        return refuse(Answer::Refused(3));
+        return Err(Refusal::Missing);
     }
-    let seen = call_reclaim_victim::look(p, image, pointers, offline, addresses, bytes);
-    let segment = seen.segment;
+    let drives = Drives {
+        p,
+        image,
+        pointers,
+        offline,
+    };
+    let seen = call_reclaim_victim::look(&drives, addresses, bytes);
     if p.Z <= seen.zone {
-        return refuse(Answer::Refused(5));
+        return Err(Refusal::NotDue);
     }
     if 0 < seen.live {
-        let choice = choose_copy(p, image, pointers, offline, addresses, bytes, f, a, seen);
-        return Picked { choice, segment };
+        let q = choose_copy(&drives, addresses, bytes, f, a, seen)?;
+        return Ok(Picked::Copy(seen.segment, q));
     }
     if has_fault(p, bytes, seen.outside) {
-        return refuse(Answer::BadZone(0));
+        return Err(Refusal::BadZone(0));
     }
-    Picked {
-        choice: Choice::Clear,
-        segment,
-    }
+    Ok(Picked::Clear(seen.segment))
 }
 
 // ---- with none live
@@ -206,12 +175,10 @@ fn clear_rows(p: Params, compact: &mut [u8], segment: Seg)
     requires compact_len { (length compact.old ≡ compact_len p) × ZonesLow p 0 segment }
     ensures { compact.new ≡ cleared p segment (drives_of p) compact.old }
 {
-    let mut d = 0;
-    while d < p.N {
+    for d in 0..p.N {
         let zone = disk_shape::zone_on(p, segment, d);
         let at = disk_shape::compact_at(p, d, zone, 0);
         disk_blocks::clear_part(compact, at, p.S);
-        d += 1;
     }
 }
 
@@ -234,7 +201,7 @@ fn reset_segment(
         (due (reset_plan p (mk_memory st addresses.old compact.old fl) segment)) }
 {
     let made = disk_zones::reset_stores(p, pointers, segment, count);
-    if made.cut {
+    if made.is_err() {
         return call_filling::cut(addresses, compact, f);
     }
     clear_rows(p, compact, segment);
@@ -264,7 +231,7 @@ pub fn reclaim(
 {
     let f = mem_rows::front_of(state);
     let a = call_filling::aim_of(p, f);
-    let c = choose(
+    let picked = match choose(
         p,
         offline,
         image,
@@ -276,13 +243,15 @@ pub fn reclaim(
         state.missing,
         f,
         a,
-    );
-    let segment = c.segment;
-    let choice = c.choice;
-    match choice {
-        Choice::Refuse(answer) => mem_rows::kept(answer, f),
-        Choice::Clear => reset_segment(p, pointers, addresses, compact, f, segment, count),
-        Choice::Copy(q) => call_copy::copy_block(
+    ) {
+        Err(why) => return mem_rows::kept(Answer::from(why), f),
+        Ok(picked) => picked,
+    };
+    match picked {
+        Picked::Clear(segment) => {
+            reset_segment(p, pointers, addresses, compact, f, segment, count)
+        }
+        Picked::Copy(segment, q) => call_copy::copy_block(
             p, image, pointers, offline, addresses, compact, inflight, bytes, f, a, segment, q,
             count,
         ),

@@ -39,7 +39,7 @@ fn add_entry(
         return (q < 4294967295) as usize;
     }
     let t = zone_number(q, cap, m);
-    let g = call_reclaim_live::wide(segments[t]);
+    let g = usize::from(segments[t]);
     used[g] = used[g] + 1;
     0
 }
@@ -56,11 +56,9 @@ pub fn count_entries(p: Params, addresses: &[u8], segments: &[u16], used: &mut [
     let cap = disk_shape::capacity(p);
     let m = 140737488355328 / cap + 1;
     let mut k = 0;
-    let mut a = 0;
-    while a < p.L {
+    for a in 0..p.L {
         let q = mem_tables::place_at(addresses, a).0 as usize;
         k += add_entry(segments, used, all, cap, m, q);
-        a += 1;
     }
     k
 }

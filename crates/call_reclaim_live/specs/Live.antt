@@ -1,5 +1,5 @@
 -- Live blocks by ascending place, and their count by the number of their segment (01, Reclaim; 02, item 4). Assumes nothing.
-use Prim.Native.Nat.{ℕ, zero, suc, ◌+◌, ◌-◌, ◌*◌, ◌/◌, ◌%◌, ◌^◌, min, max, ◌≤◌, ◌<◌}
+use Prim.Native.Nat.{ℕ, zero, suc, ◌+◌, ◌-◌, ◌*◌, ◌/◌, ◌%◌, ◌^◌, min, ◌≤◌, ◌<◌}
 use Rattle.spec.specs.Counts.{never_place}
 use Rattle.spec.specs.History.{step}
 use Rattle.spec.specs.Lists.{up_from, below, is_member_of, cons_if, keep, flat}
@@ -332,7 +332,7 @@ pub nearer : (at end n : ℕ) → at < end → 0 < n → end - (at + n) < end - 
 nearer at end n h l = omega arith
 
 -- the only window, where the marks stand for all places
-pub only_window : (tb ms : List ℕ) (n first end all! step : ℕ) → Marks tb n ms first end → (0 < first → first ≡ all!) → first < all! → end ≡ min all! (max 0 (first + step))
+pub only_window : (tb ms : List ℕ) (n first end all! step : ℕ) → Marks tb n ms first end → (0 < first → first ≡ all!) → first < all! → end ≡ min all! (first + step)
     → all! ≤ step → (end ≡ all!) × Marks tb n ms 0 all!
 only_window tb ms n first end all! step told once h e k = go (dec_lt 0 first)
   where
@@ -351,5 +351,5 @@ left_marks tb ms n first all! step once e k = go (dec_lt 0 first)
     go (yes l) = (once l k).1
     go (no l) = λ q x y. absurd (let z : ⊥ = omega arith in z)
 
-pub window_nearer : (first end all! step : ℕ) → first < all! → 0 < step → end ≡ min all! (max 0 (first + step)) → all! - end < all! - first
+pub window_nearer : (first end all! step : ℕ) → first < all! → 0 < step → end ≡ min all! (first + step) → all! - end < all! - first
 window_nearer first end all! step h l e = omega arith

@@ -2,7 +2,7 @@
 // drive 0; 1024 stands for none.
 #![tactic(auto)]
 
-ghost use Rattle.std.specs.Prelude.{◌≡◌, true, false, cond, List, ℕ, ◌+◌, ◌*◌, min, max, ◌≤◌, ◌<◌, length, get_or};
+ghost use Rattle.std.specs.Prelude.{◌≡◌, true, false, cond, List, ℕ, ◌+◌, ◌*◌, min, ◌≤◌, ◌<◌, length, get_or, unwrap_or, IfSome};
 ghost use Rattle.call_reclaim_live.specs.Fewest.{pick_of};
 ghost use Rattle.call_reclaim_live.specs.Least.{Least};
 ghost use Rattle.call_reclaim_live.specs.Live.{LiveCounted};
@@ -21,26 +21,6 @@ pub fn places(p: Params) -> usize
     ensures { (result ≡ p.N * p.Z * capacity p) × (result ≤ 715825152) }
 {
     p.N * p.Z * disk_shape::capacity(p)
-}
-
-// x, or the end of the window beyond which it lies.
-pub fn clip(first: usize, end: usize, x: usize) -> usize
-    requires { first ≤ end }
-    ensures { result ≡ min end (max first x) }
-{
-    if x < first {
-        return first;
-    }
-    if end < x {
-        return end;
-    }
-    x
-}
-
-pub fn wide(s: u16) -> usize
-    ensures { result ≡ s }
-{
-    s as usize
 }
 
 // ---- live blocks
@@ -66,10 +46,11 @@ fn count_zones(
     let mut at = 0;
     let mut t = 0;
     let mut from = first;
+    // Stays: at and t go on together, and `step_by` would give at alone, so t would be a count or a division in each turn.
     while at < end {
-        let to = clip(first, end, at + cap);
+        let to = (at + cap).clamp(first, end);
         let n = mem_marks::count_marks(marks, from - first, to - first);
-        let g = wide(segments[t]);
+        let g = usize::from(segments[t]);
         live[g] = live[g] + n;
         from = to;
         at += cap;
@@ -97,8 +78,9 @@ pub fn count_windows(
     let step = 8 * marks.len();
     let mut outside = 0;
     let mut first = 0;
+    // Stays: a window ends where the next begins; by `step_by` that end is worked out twice, and the proof has two ends of the loop.
     while first < all {
-        let end = clip(0, all, first + step);
+        let end = all.min(first + step);
         outside = mem_marks::mark_window(addresses, p.L, marks, first, end);
         count_zones(p, segments, marks, live, first, end);
         first = end;
@@ -132,40 +114,42 @@ pub fn find_sealed(p: Params, pointers: &[u8], rows: &[u32], kept: &[bool], seal
         → g < p.Z
         → get_or sealed.new g false ≡ sealed_at p (view_of p off im pointers.now) rows.now kept.now g }
 {
-    let mut g = 0;
-    while g < p.Z {
+    for g in 0..p.Z {
         sealed[g] = is_sealed_at(p, pointers, rows, kept, g);
-        g += 1;
     }
 }
 
-// Segment g in place of the best so far (Z for none), if it is sealed and has fewer live blocks.
-fn better(p: Params, sealed: &[bool], live: &[usize], best: usize, g: usize) -> usize
-    requires { (g < p.Z) × (p.Z ≤ length sealed.now) × (p.Z ≤ length live.now) }
-    ensures { result ≡ cond (get_or sealed.now g false) (pick_of p live.now best g) best }
+// Segment g in place of the best so far, if it is sealed and has fewer live blocks.
+#[tactic(auto, unfolding(crate::specs::Fewest::pick_of))]
+fn better(
+    p: Params,
+    sealed: &[bool],
+    live: &[usize],
+    best: Option<usize>,
+    g: usize,
+) -> Option<usize>
+    requires { (g < p.Z) × (p.Z ≤ length sealed.now) × (p.Z ≤ length live.now) × IfSome best (λ b. b < p.Z) }
+    ensures pick { unwrap_or result p.Z ≡ cond (get_or sealed.now g false) (pick_of p live.now (unwrap_or best p.Z) g) (unwrap_or best p.Z) }
+    ensures low { IfSome result (λ b. b < p.Z) }
 {
     if !sealed[g] {
         return best;
     }
-    if p.Z <= best {
-        return g;
+    match best {
+        Some(b) if live[b] <= live[g] => best,
+        _ => Some(g),
     }
-    if live[g] < live[best] {
-        return g;
-    }
-    best
 }
 
-// 01, Reclaim: the sealed segment with fewest live blocks, lowest zone on drive 0 on a tie; Z if there is none.
-pub fn fewest(p: Params, sealed: &[bool], live: &[usize]) -> usize
+// 01, Reclaim: the sealed segment with fewest live blocks, if one is sealed; lowest zone on drive 0 on a tie.
+pub fn fewest(p: Params, sealed: &[bool], live: &[usize]) -> Option<usize>
     requires { (p.Z ≤ length sealed.now) × (p.Z ≤ length live.now) }
-    ensures { Least p sealed.now live.now p.Z result }
+    ensures least { Least p sealed.now live.now p.Z (unwrap_or result p.Z) }
+    ensures low { IfSome result (λ g. g < p.Z) }
 {
-    let mut best = p.Z;
-    let mut g = 0;
-    while g < p.Z {
+    let mut best = None;
+    for g in 0..p.Z {
         best = better(p, sealed, live, best, g);
-        g += 1;
     }
     best
 }

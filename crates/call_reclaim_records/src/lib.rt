@@ -36,14 +36,12 @@ fn vouched_run(image: &[u8], addresses: &[u8], l: usize, at: usize, n: usize, q:
     ensures { result ≤ length (pointed_from addresses.now l q n) }
 {
     let mut c = 0;
-    let mut i = 0;
-    while i < n {
+    for i in 0..n {
         let a = clipped(
             bits_be::read_be64(image, at + disk_shape::SPARE * i + disk_shape::ADDRESS_AT),
             l,
         );
         c += same(mem_tables::place_at(addresses, a).0, q + i);
-        i += 1;
     }
     c
 }
@@ -81,8 +79,7 @@ fn vouched_zone(
     let mut at = disk_shape::block_byte(p, drive, zone, 1 + p.S);
     let mut c = 0;
     let mut o = 0;
-    let mut f = 0;
-    while f < feet {
+    for f in 0..feet {
         if most <= c {
             return c;
         }
@@ -90,7 +87,6 @@ fn vouched_zone(
         c += vouched_run(image, addresses, p.L, at, n, first + o);
         o += n;
         at += unit;
-        f += 1;
     }
     c
 }
@@ -102,14 +98,12 @@ pub fn vouched(p: Params, image: &[u8], addresses: &[u8], segment: Seg, most: us
     ensures { result ≤ length (live_below p addresses.now (in_seg p segment) (p.N * p.Z * capacity p)) }
 {
     let mut c = 0;
-    let mut d = 0;
-    while d < p.N {
+    for d in 0..p.N {
         if most <= c {
             return c;
         }
         let zone = disk_shape::zone_on(p, segment, d);
         c += vouched_zone(p, image, addresses, d, zone, most - c);
-        d += 1;
     }
     c
 }
@@ -167,12 +161,10 @@ pub fn is_fewest(
     requires z_in_bounds { (8 * p.Z ≤ length rows.now) × (p.Z ≤ length sealed.now) × OwnersRowsLow p rows.now sealed.now }
     ensures { result ≡ true → (k : ℕ) → k < p.Z → Enough p rows.now sealed.now addresses.now best n k }
 {
-    let mut g = 0;
-    while g < p.Z {
+    for g in 0..p.Z {
         if !is_enough(p, image, rows, sealed, addresses, best, n, g) {
             return false;
         }
-        g += 1;
     }
     true
 }
@@ -197,10 +189,8 @@ pub fn is_quick(p: Params, used: &[usize], n: usize) -> bool
     let records = p.N * p.S;
     let passes = call_reclaim_live::places(p) / 2097152 + 1;
     let mut t = 0;
-    let mut g = 0;
-    while g < p.Z {
+    for g in 0..p.Z {
         t += asked(records, n, used[g]);
-        g += 1;
     }
     5 * t <= 2 * passes * p.L
 }

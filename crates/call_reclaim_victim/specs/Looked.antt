@@ -1,12 +1,11 @@
 -- The segment that reclaim takes, as the code tells it (01, Reclaim; 02, item 4). Assumes nothing.
-use Prim.Native.Nat.{ℕ, ◌*◌, ◌≤◌, ◌<◌}
+use Prim.Native.Nat.{ℕ, ◌+◌, ◌*◌, ◌≤◌, ◌<◌}
 use Rattle.call_reclaim_live.specs.Fewest.{taken_as, taken_none, taken_some}
 use Rattle.call_reclaim_live.specs.Least.{live_number}
-use Rattle.call_reclaim_live.specs.Live.{in_seg, live_below, drive_low, places_high}
+use Rattle.call_reclaim_live.specs.Live.{in_seg, live_below, drive_low}
 use Rattle.call_reclaim_live.specs.Owners.{OwnersShown, number_low, number_is, number_place}
-use Rattle.spec.specs.Counts.{never_place}
 use Rattle.spec.specs.Drives.{View, zone_on}
-use Rattle.spec.specs.Lists.{Opt, keep, is_nil, first_or}
+use Rattle.spec.specs.Lists.{Opt, keep}
 use Rattle.spec.specs.Lists.Opt.{none, some}
 use Rattle.spec.specs.Params.{capacity, place_of, place_block, place_zone, place_drive}
 use Rattle.spec.specs.Reclaim.{places_in, flying, Victim, victim_of, victim, is_none, victim_segment, victim_live, idle}
@@ -19,12 +18,11 @@ use Rattle.law_basic.specs.Segs.{ZonesLow}
 use Rattle.law_drives.specs.Members.{keep_cong}
 use Rattle.law_drives.specs.Tables.{seg_at}
 use Rattle.call_reclaim_victim.specs.Outside.{is_outside}
-use Rattle.call_reclaim_victim.specs.Waiting.{is_odd, flying_in, odd_zone, odd_nobody, IdleBelow, nil_first, waiting-nil, waiting-found, waiting_live_in, flying_in_lem}
+use Rattle.call_reclaim_victim.specs.Waiting.{is_odd, flying_in, odd_zone, odd_nobody, IdleBelow, place_number, foremost, waiting-found, waiting_live_in, flying_in_lem}
 use Rattle.call_reclaim_victim.specs.declared.Chosen.{Chosen}
 use Rattle.call_reclaim_victim.specs.declared.Idle.{Idle}
-use borrow.Author.Tests.{le-leb, lt-leb, eq-eqb, eqb-true}
-use Rattle.std.specs.Prelude.{leb, get_or, replicate, true, false, List, ◌≡◌}
-use Rattle.std.proofs.Math.Dec.{eqb}
+use borrow.Author.Tests.{le-leb, lt-leb, eqb-true}
+use Rattle.std.specs.Prelude.{Option, Some, None, unwrap_or, leb, get_or, replicate, true, false, List, ◌≡◌}
 use Rattle.std.proofs.Math.ListN.{length}
 use Rattle.std.proofs.lemmas.List.{length-replicate}
 use Rattle.std.proofs.Math.Bool.{Bool, not}
@@ -42,15 +40,13 @@ pub record Looked (p : Params) (v : View) (tb : List ℕ) (st : State) (r : Chos
   pub zone_is : r.zone < p.Z → zone_on r.segment 0 ≡ r.zone
   -- how many live blocks it has; 0 where there is no such segment
   pub live : length (victim_live (victim p v tb)) ≡ r.live
-  -- the first that is not in flight, or never written if there is none
-  pub first : first_or never_place (idle p v st (victim p v tb)) ≡ r.first.0
-  -- and that is so just if there is none
-  pub none_idle : is_nil (idle p v st (victim p v tb)) ≡ eqb r.first.0 never_place
-  -- the lowest zone with a live block that is no data block, or 1024
+  -- the first that is not in flight, if there is one
+  pub first : place_number r.first ≡ foremost (idle p v st (victim p v tb))
+  -- the lowest zone with a live block that is no data block, if there is one
   pub odd : odd_zone p (victim_live (victim p v tb)) ≡ r.odd
   -- the first one not in flight, where there is one, is a block of the image in that segment
-  pub found : (r.first.0 ≡ never_place → ⊥)
-      → (r.zone < p.Z) × (r.first.0 < p.N * p.Z * capacity p) × (place_segment p v 0 r.first.0 ≡ r.segment) × (r.odd ≡ 1024 → is_odd p r.first.0 ≡ false)
+  pub found : (q : ℕ) → place_number r.first ≡ Some q
+      → (r.zone < p.Z) × (q < p.N * p.Z * capacity p) × (place_segment p v 0 q ≡ r.segment) × (r.odd ≡ None → is_odd p q ≡ false)
   -- some place of the table is no place of the image; not looked at where no segment is sealed
   pub outside : r.zone < p.Z → r.outside ≡ is_outside p v tb
 
@@ -58,8 +54,8 @@ pub record Looked (p : Params) (v : View) (tb : List ℕ) (st : State) (r : Chos
 
 -- no segment is sealed
 pub looked_none : (p : Params) (v : View) (tb : List ℕ) (st : State) (g : ℕ) → victim p v tb ≡ taken_as p v tb g → p.Z ≤ g → (r : Chosen) → p.Z ≤ r.zone → r.live ≡ 0
-    → r.first.0 ≡ never_place → r.odd ≡ 1024 → Looked p v tb st r
-unfolding is_none victim_live idle is_nil first_or keep
+    → r.first ≡ None → r.odd ≡ None → Looked p v tb st r
+unfolding is_none victim_live idle foremost keep
 looked_none p v tb st g taken h r es el ef eo =
     let w : victim p v tb ≡ none = taken ∙ taken_none p v tb g h in
     record {
@@ -68,10 +64,10 @@ looked_none p v tb st g taken h r es el ef eo =
       zones_low = λ l. absurd (let q : ⊥ = omega (arith, es, l) in q);
       zone_is = λ l. absurd (let q : ⊥ = omega (arith, es, l) in q);
       live = ap (λ (x : Opt Victim). length (victim_live x)) w ∙ sym el;
-      first = ap (λ (x : Opt Victim). first_or never_place (idle p v st x)) w ∙ sym ef;
-      none_idle = ap (λ (x : Opt Victim). is_nil (idle p v st x)) w ∙ sym (eq-eqb r.first.0 never_place ef);
+      first = ap place_number ef ∙ sym (ap (λ (x : Opt Victim). foremost (idle p v st x)) w);
       odd = ap (λ (x : Opt Victim). odd_zone p (victim_live x)) w ∙ odd_nobody p ∙ sym eo;
-      found = λ n. absurd (n ef);
+      found = λ q n.
+          let k : q + 1 ≡ q = ap (λ (o : Option ℕ). unwrap_or o (q + 1)) (sym (ap place_number ef) ∙ n) in absurd (let z : ⊥ = omega (arith, k) in z);
       outside = λ l. absurd (let q : ⊥ = omega (arith, es, l) in q);
     }
 
@@ -112,27 +108,22 @@ module _ (p : Params) (rg : Ranged p) (v : View) (tb rows ss : List ℕ) (sealed
 
   -- one is
   pub looked_some : (n : ℕ) → length live! ≡ n → (i : Idle) → IdleBelow p v st S tb all! i → (r : Chosen) → r.zone ≡ g → r.segment ≡ S → r.live ≡ n
-      → r.first.0 ≡ i.first.0 → r.odd ≡ i.odd → r.outside ≡ is_outside p v tb → Looked p v tb st r
+      → r.first ≡ i.first → r.odd ≡ i.odd → r.outside ≡ is_outside p v tb → Looked p v tb st r
   unfolding is_none victim_segment victim_of
   looked_some n so i wait r ez es el ef eo ex =
       let f : ℕ → Bool = λ q. not (flying_in p v st S q) in
-      let e : first_or never_place (keep f live!) ≡ r.first.0 = sym wait.first ∙ sym ef in
+      let e : place_number r.first ≡ foremost (keep f live!) = ap place_number ef ∙ wait.first in
       record {
         nobody = ap is_none is_some ∙ sym (lt-leb p.Z r.zone (omega (arith, ez, h)));
         segment = λ _. ap victim_segment is_some ∙ sym es;
         zones_low = λ _. subst (λ (x : Seg). ZonesLow p 0 x) (sym es) (number_low p rg v rows ss sealed sh g h is);
         zone_is = λ _. ap (λ (x : Seg). zone_on x 0) es ∙ number_is p rg v rows ss sealed sh g h is ∙ sym ez;
         live = ap length its_live ∙ so ∙ sym el;
-        first = ap (first_or never_place) its_idle ∙ e;
-        none_idle = ap is_nil its_idle ∙ nil_first (keep f live!) (waiting-nil p v st S tb all! (omega (arith, places_high p rg))) ∙ ap (λ (x : ℕ). eqb x never_place) e;
+        first = e ∙ ap foremost (sym its_idle);
         odd = ap (odd_zone p) its_live ∙ sym wait.odd ∙ sym eo;
-        found = λ m.
-            let t = waiting-found p v st S tb rg all! (λ c. m (sym e ∙ c)) in (
-              omega (arith, ez, h),
-              subst (λ (x : ℕ). x < all!) e t.0,
-              subst (λ (x : ℕ). place_segment p v 0 x ≡ S) e (of_it (first_or never_place (keep f live!)) t.0 t.1) ∙ sym es,
-              λ o. subst (λ (x : ℕ). is_odd p x ≡ false) e (t.2 (sym wait.odd ∙ sym eo ∙ o)),
-            );
+        found = λ q m.
+            let t = waiting-found p v st S tb all! q (sym e ∙ m) in
+            (omega (arith, ez, h), t.0, of_it q t.0 t.1 ∙ sym es, λ o. t.2 (sym wait.odd ∙ sym eo ∙ o));
         outside = λ _. ex;
       }
 

@@ -1,14 +1,14 @@
 -- The live blocks of a segment by their records (01, Reclaim): those counted are no more than all, and where they are all, what is known of
 -- them is known of all. Then the segment, by the entries of the table. Assumes nothing.
-use Rattle.std.specs.Prelude.{ℕ, suc, ◌+◌, ◌-◌, ◌*◌, min, ◌≤◌, ◌<◌, eqb, length, get_or, Bool, true, false, cond, List, [], ◌∷◌, ◌++◌, ◌≡◌, refl}
+use Rattle.std.specs.Option.{option_or}
+use Rattle.std.specs.Prelude.{Some, None, ℕ, suc, ◌+◌, ◌-◌, ◌*◌, min, ◌≤◌, ◌<◌, eqb, length, get_or, Bool, true, false, cond, List, [], ◌∷◌, ◌++◌, ◌≡◌, refl}
 use Rattle.call_reclaim_live.specs.Fewest.{taken_as}
 use Rattle.call_reclaim_live.specs.Least.{Least, victim-least, live_number}
 use Rattle.call_reclaim_live.specs.Live.{in_seg, numbered, is_live_in, live_below, live_owned, live_split, live_more}
 use Rattle.call_reclaim_live.specs.Owners.{OwnersShown}
 use Rattle.disk_gather.specs.Owners.{row_seg}
-use Rattle.spec.specs.Counts.{never_place}
 use Rattle.spec.specs.Drives.{View, zone_on}
-use Rattle.spec.specs.Lists.{up_from, keep, first_or}
+use Rattle.spec.specs.Lists.{up_from, keep}
 use Rattle.spec.specs.Memory.{place_at_of}
 use Rattle.spec.specs.Params.{between, capacity, place_of, place_block, place_zone, place_drive}
 use Rattle.spec.specs.Reclaim.{places_in, victim_of, victim}
@@ -22,11 +22,10 @@ use Rattle.law_drives.specs.Tables.{seg_at}
 use Rattle.mem_marks.specs.Marks.{is_pointed}
 use Rattle.call_reclaim_victim.specs.Looked.{Looked, looked_some}
 use Rattle.call_reclaim_victim.specs.Outside.{is_outside}
-use Rattle.call_reclaim_victim.specs.Waiting.{is_odd, or_else, flying_in, odd_zone, IdleStepped, IdleBelow, waiting_none, waiting-step}
+use Rattle.call_reclaim_victim.specs.Waiting.{is_odd, place_number, foremost, flying_in, odd_zone, IdleStepped, IdleBelow, waiting_none, waiting-step}
 use Rattle.call_reclaim_victim.specs.declared.Chosen.{Chosen}
 use Rattle.call_reclaim_victim.specs.declared.Idle.{Idle}
 use Rattle.call_reclaim_victim.specs.declared.Seen.{Seen}
-use Rattle.call_reclaim_victim.specs.declared.Told.{Told}
 use Rattle.call_reclaim_records.specs.Vouch.{Enough, pointed_by, live_longer}
 use Rattle.std.proofs.Common.{eq-eqb, length-append, append-nil, sym, ◌∙◌, subst, arith}
 use Rattle.std.proofs.Math.Bool.{not}
@@ -34,11 +33,7 @@ use Rattle.std.proofs.Math.Path.{ap}
 
 -- what is seen, as the first live block that waits: none of those seen is a header or footer block
 abbrev pub seen_idle : Seen → Idle
-seen_idle s = record { first = s.first; odd = 1024 }
-
--- what is told, as the segment that reclaim takes
-abbrev pub chosen_of : List ℕ → Told → Chosen
-chosen_of rows t = record { zone = t.zone; segment = row_seg rows t.zone; live = t.live; first = t.first; odd = 1024; outside = t.outside }
+seen_idle s = record { first = s.first; odd = None }
 
 -- what s says of the live blocks of segment h below place n
 pub record Vouched (p : Params) (v : View) (st : State) (h : Seg) (tb : List ℕ) (n : ℕ) (s : Seen) : Type 0 where
@@ -59,8 +54,8 @@ module _ (p : Params) (v : View) (st : State) (h : Seg) (tb : List ℕ) where
   abbrev live : ℕ → List ℕ
   live n = live_below p tb (in_seg p h) n
 
-  pub vouched_none : (s : Seen) → s.live ≡ 0 → s.first.0 ≡ never_place → Vouched p v st h tb 0 s
-  vouched_none s e f = record { counted = omega (arith, e); whole = λ _. waiting_none p v st h tb (seen_idle s) f refl }
+  pub vouched_none : Vouched p v st h tb 0 (record { live = 0; first = None })
+  vouched_none = record { counted = omega arith; whole = λ _. waiting_none p v st h tb }
 
   -- over places that are not looked at
   pub vouched_skip : (a b : ℕ) (s : Seen) → a ≤ b → Vouched p v st h tb a s → Vouched p v st h tb b s
@@ -74,28 +69,28 @@ module _ (p : Params) (v : View) (st : State) (h : Seg) (tb : List ℕ) where
         let same : live b ≡ live a = d ∙ ap (λ (x : List ℕ). live a ++ x) z ∙ append-nil (live a) in
         let t = w.whole (omega (arith, e, ap length same)) in
         record {
-          first = t.first ∙ ap (λ (x : List ℕ). first_or never_place (keep (λ q. not (flying_in p v st h q)) x)) (sym same);
+          first = t.first ∙ ap (λ (x : List ℕ). foremost (keep (λ q. not (flying_in p v st h q)) x)) (sym same);
           odd = t.odd ∙ ap (odd_zone p) (sym same);
         };
   }
 
   -- over a data block that is live
-  pub vouched_step : (q : ℕ) (s r : Seen) (i : Idle) → is_live_in p tb (in_seg p h) q ≡ true → is_odd p q ≡ false → q < never_place → IdleStepped p v st h (seen_idle s) q i
-      → r.live ≡ s.live + 1 → r.first.0 ≡ i.first.0 → Vouched p v st h tb q s → Vouched p v st h tb (q + 1) r
-  vouched_step q s r i e o low step el ef w = record {
+  pub vouched_step : (q : ℕ) (s r : Seen) (i : Idle) → is_live_in p tb (in_seg p h) q ≡ true → is_odd p q ≡ false → IdleStepped p v st h (seen_idle s) q i
+      → r.live ≡ s.live + 1 → place_number r.first ≡ place_number i.first → Vouched p v st h tb q s → Vouched p v st h tb (q + 1) r
+  vouched_step q s r i e o step el ef w = record {
     counted = omega (arith, w.counted, el, l);
     whole = λ k.
-        let t = waiting-step p v st h tb q (seen_idle s) i e low (w.whole (omega (arith, k, el, l))) step in
-        record { first = ef ∙ t.first; odd = sym (step.odd ∙ ap (λ (b : Bool). cond b (min 1024 (place_zone p q)) 1024) o) ∙ t.odd };
+        let t = waiting-step p v st h tb q (seen_idle s) i e (w.whole (omega (arith, k, el, l))) step in
+        record { first = ef ∙ t.first; odd = sym (step.odd ∙ ap (λ (b : Bool). cond b (Some (min (place_zone p q) (place_zone p q))) None) o) ∙ t.odd };
   }
     where
       l : length (live (q + 1)) ≡ length (live q) + 1
       l = ap length (live_more p tb (in_seg p h) q e) ∙ length-append (live q) (q ∷ [])
 
 -- a data block more, as it is seen
-pub step-seen : (p : Params) (v : View) (st : State) (h : Seg) (q : ℕ) (s : Seen) (i : Idle) → is_odd p q ≡ false → i.odd ≡ 1024
-    → i.first.0 ≡ or_else s.first.0 (cond (flying_in p v st h q) never_place q) → IdleStepped p v st h (seen_idle s) q i
-step-seen p v st h q s i even eo ef = record { first = ef; odd = eo ∙ sym (ap (λ (b : Bool). cond b (min 1024 (place_zone p q)) 1024) even) }
+pub step-seen : (p : Params) (v : View) (st : State) (h : Seg) (q : ℕ) (s : Seen) (i : Idle) → is_odd p q ≡ false → i.odd ≡ None
+    → place_number i.first ≡ option_or (place_number s.first) (cond (flying_in p v st h q) None (Some q)) → IdleStepped p v st h (seen_idle s) q i
+step-seen p v st h q s i even eo ef = record { first = ef; odd = eo ∙ sym (ap (λ (b : Bool). cond b (Some (min (place_zone p q) (place_zone p q))) None) even) }
 
 -- the data block at offset o of a zone of segment h
 module _ (p : Params) (r : Ranged p) (h : Seg) (d o q : ℕ) (hd : d < p.N) (hz : zone_on h d < p.Z) (ho : o < p.S) (e : q ≡ place_of p d (zone_on h d) 1 + o) where
@@ -148,7 +143,7 @@ module _ (p : Params) (rg : Ranged p) (v : View) (tb rows ss : List ℕ) (sealed
         (λ k l e. omega (arith, size g h is, size k (omega (arith, l, h)) e, as_many, (others k (omega (arith, l, h)) e).0 l))
         (λ k l m e. omega (arith, size g h is, size k m e, as_many, (others k m e).1 l))
 
-    pub looked_sure : (r : Chosen) → r.zone ≡ g → r.segment ≡ S → r.live ≡ s.live → r.first.0 ≡ s.first.0 → r.odd ≡ 1024 → r.outside ≡ is_outside p v tb
+    pub looked_sure : (r : Chosen) → r.zone ≡ g → r.segment ≡ S → r.live ≡ s.live → r.first ≡ s.first → r.odd ≡ None → r.outside ≡ is_outside p v tb
         → Looked p v tb st r
     looked_sure r ez es el ef eo ex =
         looked_some p rg v tb rows ss sealed sh st g h is taken s.live (ap (λ (x : Seg). length (live_below p tb (in_seg p x) all!)) (sym its_row) ∙ as_many) (seen_idle s)
@@ -173,15 +168,15 @@ module _ (p : Params) (rg : Ranged p) (v : View) (tb rows ss : List ℕ) (sealed
       λ b. omega arith,
     )
 
-    pub looked_empty : get_or used g 0 ≡ 0 → (r : Chosen) → r.zone ≡ g → r.segment ≡ S → r.live ≡ 0 → r.first.0 ≡ never_place → r.odd ≡ 1024
+    pub looked_empty : get_or used g 0 ≡ 0 → (r : Chosen) → r.zone ≡ g → r.segment ≡ S → r.live ≡ 0 → r.first ≡ None → r.odd ≡ None
         → r.outside ≡ is_outside p v tb → Looked p v tb st r
     looked_empty z =
-        let s : Seen = record { live = 0; first = record { 0 = 4294967295 } } in
-        looked_sure s (vouched_skip p v st S tb 0 all! s (omega arith) (vouched_none p v st S tb s refl refl)) (omega (arith, (vouched_entries g h is).0, z)) (none_else z)
+        let s : Seen = record { live = 0; first = None } in
+        looked_sure s (vouched_skip p v st S tb 0 all! s (omega arith) (vouched_none p v st S tb)) (omega (arith, (vouched_entries g h is).0, z)) (none_else z)
 
     -- where it has some, they are all live blocks that are seen
     pub looked_seen : (s : Seen) → Vouched p v st S tb all! s → s.live ≡ get_or used g 0 → ((k : ℕ) → k < p.Z → Enough p rows sealed tb g (get_or used g 0) k)
-        → (r : Chosen) → r.zone ≡ g → r.segment ≡ S → r.live ≡ get_or used g 0 → r.first.0 ≡ s.first.0 → r.odd ≡ 1024 → r.outside ≡ is_outside p v tb
+        → (r : Chosen) → r.zone ≡ g → r.segment ≡ S → r.live ≡ get_or used g 0 → r.first ≡ s.first → r.odd ≡ None → r.outside ≡ is_outside p v tb
         → Looked p v tb st r
     looked_seen s w e others r ez es el =
         looked_sure s w (omega (arith, (vouched_entries g h is).0, e)) (λ k l. subst (λ (x : ℕ). Enough p rows sealed tb g x k) (sym e) (others k l)) r ez es (el ∙ sym e)

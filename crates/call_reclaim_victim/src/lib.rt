@@ -1,33 +1,34 @@
 // Live blocks and the segment that reclaim takes (01, Reclaim). The segments are gathered once, and go by their zone on drive 0 (02, item 4).
 #![tactic(auto)]
 
-ghost use Rattle.std.specs.Prelude.{◌≡◌, true, false, cond, List, [], ℕ, ◌+◌, ◌-◌, ◌*◌, min, ◌≤◌, ◌<◌, length, get_or};
-ghost use Rattle.spec.specs.Counts.{never_place};
+ghost use Rattle.disk_drives.specs.Viewed.{viewed};
+ghost use Rattle.std.specs.Prelude.{◌≡◌, true, false, cond, List, [], ℕ, ◌+◌, ◌-◌, ◌*◌, min, ◌≤◌, ◌<◌, length, get_or, IfSome, Some, None};
+ghost use Rattle.std.specs.Option.{option_or};
 ghost use Rattle.spec.specs.Drives.{view_of, mk_disk, zone_on};
 ghost use Rattle.spec.specs.Lists.{cons_if, any, below};
 ghost use Rattle.spec.specs.Memory.{state_len, state_of};
-ghost use Rattle.spec.specs.Params.{in_range, capacity, addresses_len, offline_len, place_of};
+ghost use Rattle.spec.specs.Params.{in_range, capacity, addresses_len, place_of};
 ghost use Rattle.spec.specs.Reclaim.{table_faults};
 ghost use Rattle.mem_marks.specs.Marks.{Marks};
 ghost use Rattle.disk_gather.specs.Flags.{FlagsRows, Keeps};
 ghost use Rattle.call_reclaim_live.specs.Live.{in_seg};
 ghost use Rattle.call_reclaim_live.specs.Owners.{Owns, Numbered, OwnersShown};
 ghost use Rattle.call_reclaim_victim.specs.Looked.{Looked};
-ghost use Rattle.call_reclaim_victim.specs.Vouched.{Vouched, Sees, chosen_of};
-ghost use Rattle.call_reclaim_victim.specs.Waiting.{is_odd, or_else, flying_in, IdleStepped, IdleBelow};
+ghost use Rattle.call_reclaim_victim.specs.Vouched.{Vouched, Sees};
+ghost use Rattle.call_reclaim_victim.specs.Waiting.{is_odd, place_number, flying_in, IdleStepped, IdleBelow};
 ghost use Rattle.law_basic.specs.Segs.{ZonesLow};
 ghost use Rattle.law_views.specs.Views.{Whole};
 
+use disk_drives::Drives;
 use spec::{Params, Place, Seg};
 
 // ---- the first live block that is not in flight
 
-// 01, Reclaim: the first live block that is not in flight, NEVER if there is none, and the lowest zone with a live block that is no data block,
-// 1024 if there is none.
+// 01, Reclaim: the first live block that is not in flight, and the lowest zone with a live block that is no data block, where there is one.
 #[derive(Clone, Copy)]
 pub struct Idle {
-    pub first: Place,
-    pub odd: usize,
+    pub first: Option<Place>,
+    pub odd: Option<usize>,
 }
 
 // A place that is no data block.
@@ -62,27 +63,6 @@ fn is_flying(
     mem_state::holds(bytes, address, stamp)
 }
 
-// The first place, or the second where the first is none.
-fn or_else(a: Place, b: Place) -> Place
-    ensures { result.0 ≡ or_else a.0 b.0 }
-{
-    let none = Place::NEVER;
-    if a.0 == none.0 {
-        return b;
-    }
-    a
-}
-
-// The lower of two zones.
-fn lower(a: usize, b: usize) -> usize
-    ensures { result ≡ min a b }
-{
-    if b < a {
-        return b;
-    }
-    a
-}
-
 // One live block more. A header or footer block is never in flight; it names its own zone.
 fn idle_step(
     p: Params,
@@ -99,22 +79,22 @@ fn idle_step(
     ensures { (off : List ℕ)
         → IdleStepped p (view_of p off image.now pointers.now) (state_of bytes.now) segment idle place.0 result }
 {
-    let none = Place::NEVER;
-    let first = idle.first;
     if is_odd(p, place) {
-        let next = or_else(first, place);
         let zone = disk_shape::place_zone(p, place);
-        let odd = lower(idle.odd, zone);
-        return Idle { first: next, odd };
+        let odd = idle.odd.unwrap_or(zone).min(zone);
+        return Idle {
+            first: idle.first.or(Some(place)),
+            odd: Some(odd),
+        };
     }
-    if first.0 != none.0 {
+    if idle.first.is_some() {
         return idle;
     }
     if is_flying(p, image, pointers, segment, bytes, place) {
         return idle;
     }
     Idle {
-        first: place,
+        first: Some(place),
         odd: idle.odd,
     }
 }
@@ -147,6 +127,7 @@ fn idle_run(
     }
     let mut found = idle;
     let mut q = lo;
+    // Stays: q goes on from mark to mark, not by one.
     while q < hi {
         let next = first + mem_marks::next_marked(marks, q - first, hi - first);
         if hi <= next {
@@ -193,9 +174,10 @@ fn idle_zones(
     let mut at = 0;
     let mut t = 0;
     let mut from = first;
+    // Stays: at and t go on together, and `step_by` would give at alone, so t would be a count or a division in each turn.
     while at < end {
-        let to = call_reclaim_live::clip(first, end, at + cap);
-        let owner = call_reclaim_live::wide(segments[t]);
+        let to = (at + cap).clamp(first, end);
+        let owner = usize::from(segments[t]);
         found = idle_run(
             p,
             image,
@@ -237,12 +219,13 @@ fn idle_windows(
     let all = call_reclaim_live::places(p);
     let step = 8 * marks.len();
     let mut found = Idle {
-        first: Place::NEVER,
-        odd: 1024,
+        first: None,
+        odd: None,
     };
     let mut first = 0;
+    // Stays: a window ends where the next begins; by `step_by` that end is worked out twice, and the proof has two ends of the loop.
     while first < all {
-        let end = call_reclaim_live::clip(0, all, first + step);
+        let end = all.min(first + step);
         mem_marks::mark_window(addresses, p.L, marks, first, end);
         found = idle_zones(
             p, image, pointers, segment, segments, g, marks, bytes, first, end, found,
@@ -278,8 +261,8 @@ fn idle_of(
         );
     }
     let none = Idle {
-        first: Place::NEVER,
-        odd: 1024,
+        first: None,
+        odd: None,
     };
     idle_zones(
         p, image, pointers, segment, segments, g, marks, bytes, 0, all, none,
@@ -289,28 +272,28 @@ fn idle_of(
 // ---- the segment
 
 // The segment that reclaim takes: its zone on drive 0, Z if there is none, and all its zones; how many live blocks it has; the first of them that
-// is not in flight, NEVER if there is none; the lowest zone with a live block that is no data block, 1024 if there is none; whether some place of
-// the table is no place of the image, where there is a segment.
+// is not in flight, and the lowest zone with a live block that is no data block, where there is one; whether some place of the table is no place
+// of the image, where there is a segment.
 #[derive(Clone, Copy)]
 pub struct Chosen {
     pub zone: usize,
     pub segment: Seg,
     pub live: usize,
-    pub first: Place,
-    pub odd: usize,
+    pub first: Option<Place>,
+    pub odd: Option<usize>,
     pub outside: bool,
 }
 
 // No segment.
 fn nobody(p: Params) -> Chosen
-    ensures { (result.zone ≡ p.Z) × (result.live ≡ 0) × (result.first.0 ≡ never_place) × (result.odd ≡ 1024) }
+    ensures { (result.zone ≡ p.Z) × (result.live ≡ 0) × (result.first ≡ None) × (result.odd ≡ None) }
 {
     Chosen {
         zone: p.Z,
         segment: Seg { zones: [0; 8] },
         live: 0,
-        first: Place::NEVER,
-        odd: 1024,
+        first: None,
+        odd: None,
         outside: false,
     }
 }
@@ -336,10 +319,9 @@ fn look_with(
 {
     let mut live = [0usize; 1025];
     let outside = call_reclaim_live::count_windows(p, segments, addresses, marks, &mut live);
-    let g = call_reclaim_live::fewest(p, sealed, &live);
-    if p.Z <= g {
+    let Some(g) = call_reclaim_live::fewest(p, sealed, &live) else {
         return nobody(p);
-    }
+    };
     let segment = disk_gather::row(rows, g);
     let idle = idle_of(
         p, image, pointers, segment, segments, g, addresses, marks, bytes,
@@ -358,11 +340,11 @@ fn look_with(
 
 // ---- the segment by its records
 
-// Live blocks of a segment that its records tell: how many, and the first of them that is not in flight, NEVER if there is none.
+// Live blocks of a segment that its records tell: how many, and the first of them that is not in flight, if there is one.
 #[derive(Clone, Copy)]
 pub struct Seen {
     pub live: usize,
-    pub first: Place,
+    pub first: Option<Place>,
 }
 
 // The first data block that is not in flight, one more being at a place.
@@ -372,25 +354,23 @@ fn next_idle(
     pointers: &[u8],
     segment: Seg,
     bytes: &[u8],
-    first: Place,
+    first: Option<Place>,
     place: Place,
-) -> Place
+) -> Option<Place>
     requires p_value { in_range p ≡ true }
     requires whole { Whole p (mk_disk image.now pointers.now) × ZonesLow p 0 segment }
     requires place_bound { (place.0 < p.N * p.Z * capacity p) × (is_odd p place.0 ≡ false) × (length bytes.now ≡ state_len) }
     ensures { (off : List ℕ)
-        → result.0
-        ≡ or_else first.0
-        (cond (flying_in p (view_of p off image.now pointers.now) (state_of bytes.now) segment place.0) never_place place.0) }
+        → place_number result
+        ≡ option_or (place_number first) (cond (flying_in p (view_of p off image.now pointers.now) (state_of bytes.now) segment place.0) None (Some place.0)) }
 {
-    let none = Place::NEVER;
-    if first.0 != none.0 {
+    if first.is_some() {
         return first;
     }
     if is_flying(p, image, pointers, segment, bytes, place) {
-        return none;
+        return None;
     }
-    place
+    Some(place)
 }
 
 // The data block at offset o of a segment's zone, the place at + o, if the table has it at the address of its record.
@@ -452,12 +432,10 @@ fn see_zone(
     let zone = disk_shape::zone_on(p, segment, drive);
     let at = disk_shape::place_of(p, drive, zone, 1).0 as usize;
     let mut found = seen;
-    let mut o = 0;
-    while o < p.S {
+    for o in 0..p.S {
         found = see_block(
             p, image, pointers, addresses, bytes, segment, drive, zone, at, o, found,
         );
-        o += 1;
     }
     found
 }
@@ -479,29 +457,16 @@ fn see_segment(
 {
     let mut found = Seen {
         live: 0,
-        first: Place::NEVER,
+        first: None,
     };
-    let mut d = 0;
-    while d < p.N {
+    for d in 0..p.N {
         found = see_zone(p, image, pointers, addresses, bytes, segment, d, found);
-        d += 1;
     }
     found
 }
 
-// A segment by its zone on drive 0, the count of its live blocks and the first not in flight; whether it is sure that reclaim takes it, and that
-// none of them is a header or footer block; whether some place of the table is no place of the image.
-#[derive(Clone, Copy)]
-pub struct Told {
-    pub sure: bool,
-    pub zone: usize,
-    pub live: usize,
-    pub first: Place,
-    pub outside: bool,
-}
-
-// The sealed segment with fewest entries in the table, if each of its entries is a live block by its record, and the others have as many. Where
-// many records would have to be read it is not looked at.
+// The sealed segment with fewest entries in the table, if each of its entries is a live block by its record, and the others have as many; none of
+// them is a header or footer block. None where that is not sure. Where many records would have to be read it is not looked at.
 fn look_by_records(
     p: Params,
     image: &[u8],
@@ -511,73 +476,49 @@ fn look_by_records(
     sealed: &[bool],
     addresses: &[u8],
     bytes: &[u8],
-) -> Told
+) -> Option<Chosen>
     requires p_value { in_range p ≡ true }
     requires whole { Whole p (mk_disk image.now pointers.now) × Numbered p rows.now segments.now sealed.now }
     requires addresses_len { (length addresses.now ≡ addresses_len p) × (length bytes.now ≡ state_len) }
-    ensures zone_lt_z { result.sure ≡ true → result.zone < p.Z }
-    ensures by_index { (off : List ℕ)
+    ensures { (off : List ℕ)
         → OwnersShown p (view_of p off image.now pointers.now) rows.now segments.now sealed.now
-        → result.sure ≡ true
-        → Looked p (view_of p off image.now pointers.now) addresses.now (state_of bytes.now) (chosen_of rows.now result) }
+        → IfSome result (Looked p (view_of p off image.now pointers.now) addresses.now (state_of bytes.now)) }
 {
-    let none = Place::NEVER;
     let mut used = [0usize; 1025];
     let beyond = call_reclaim_entries::count_entries(p, addresses, segments, &mut used);
     let outside = beyond + used[1024] != 0;
-    let g = call_reclaim_live::fewest(p, sealed, &used);
-    if p.Z <= g {
-        return Told {
-            sure: false,
-            zone: g,
-            live: 0,
-            first: none,
-            outside,
-        };
-    }
+    let g = call_reclaim_live::fewest(p, sealed, &used)?;
     let n = used[g];
+    let segment = disk_gather::row(rows, g);
+    let told = Chosen {
+        zone: g,
+        segment,
+        live: n,
+        first: None,
+        odd: None,
+        outside,
+    };
     if n == 0 {
-        return Told {
-            sure: true,
-            zone: g,
-            live: 0,
-            first: none,
-            outside,
-        };
+        return Some(told);
     }
     if !call_reclaim_records::is_quick(p, &used, n) {
-        return Told {
-            sure: false,
-            zone: g,
-            live: 0,
-            first: none,
-            outside,
-        };
+        return None;
     }
-    let segment = disk_gather::row(rows, g);
     let seen = see_segment(p, image, pointers, addresses, bytes, segment);
-    let first = seen.first;
     if seen.live != n {
-        return Told {
-            sure: false,
-            zone: g,
-            live: 0,
-            first,
-            outside,
-        };
+        return None;
     }
-    let sure = call_reclaim_records::is_fewest(p, image, rows, sealed, addresses, g, n);
-    Told {
-        sure,
-        zone: g,
-        live: n,
-        first,
-        outside,
+    if !call_reclaim_records::is_fewest(p, image, rows, sealed, addresses, g, n) {
+        return None;
     }
+    Some(Chosen {
+        first: seen.first,
+        ..told
+    })
 }
 
-// With marks for 65,536 places.
-fn look_small(
+// With marks of ROOM bytes, for 8 places each.
+fn look_within<const ROOM: usize>(
     p: Params,
     image: &[u8],
     pointers: &[u8],
@@ -590,59 +531,12 @@ fn look_small(
     requires p_value { in_range p ≡ true }
     requires whole { Whole p (mk_disk image.now pointers.now) × Numbered p rows.now segments.now sealed.now }
     requires addresses_len { (length addresses.now ≡ addresses_len p) × (length bytes.now ≡ state_len) }
+    requires room { (0 < ROOM) × (ROOM ≤ 262144) }
     ensures { (off : List ℕ)
         → OwnersShown p (view_of p off image.now pointers.now) rows.now segments.now sealed.now
         → Looked p (view_of p off image.now pointers.now) addresses.now (state_of bytes.now) result }
 {
-    let mut marks = [0u8; 8192];
-    look_with(
-        p, image, pointers, rows, segments, sealed, addresses, &mut marks, bytes,
-    )
-}
-
-// With marks for 524,288 places.
-fn look_large(
-    p: Params,
-    image: &[u8],
-    pointers: &[u8],
-    rows: &[u32],
-    segments: &[u16],
-    sealed: &[bool],
-    addresses: &[u8],
-    bytes: &[u8],
-) -> Chosen
-    requires p_value { in_range p ≡ true }
-    requires whole { Whole p (mk_disk image.now pointers.now) × Numbered p rows.now segments.now sealed.now }
-    requires addresses_len { (length addresses.now ≡ addresses_len p) × (length bytes.now ≡ state_len) }
-    ensures { (off : List ℕ)
-        → OwnersShown p (view_of p off image.now pointers.now) rows.now segments.now sealed.now
-        → Looked p (view_of p off image.now pointers.now) addresses.now (state_of bytes.now) result }
-{
-    let mut marks = [0u8; 65536];
-    look_with(
-        p, image, pointers, rows, segments, sealed, addresses, &mut marks, bytes,
-    )
-}
-
-// With marks for 2,097,152 places.
-fn look_huge(
-    p: Params,
-    image: &[u8],
-    pointers: &[u8],
-    rows: &[u32],
-    segments: &[u16],
-    sealed: &[bool],
-    addresses: &[u8],
-    bytes: &[u8],
-) -> Chosen
-    requires p_value { in_range p ≡ true }
-    requires whole { Whole p (mk_disk image.now pointers.now) × Numbered p rows.now segments.now sealed.now }
-    requires addresses_len { (length addresses.now ≡ addresses_len p) × (length bytes.now ≡ state_len) }
-    ensures { (off : List ℕ)
-        → OwnersShown p (view_of p off image.now pointers.now) rows.now segments.now sealed.now
-        → Looked p (view_of p off image.now pointers.now) addresses.now (state_of bytes.now) result }
-{
-    let mut marks = [0u8; 262144];
+    let mut marks = [0u8; ROOM];
     look_with(
         p, image, pointers, rows, segments, sealed, addresses, &mut marks, bytes,
     )
@@ -668,28 +562,19 @@ fn look_in(
 {
     let n = call_reclaim_live::places(p);
     if n <= 65536 {
-        return look_small(p, image, pointers, rows, segments, sealed, addresses, bytes);
+        return look_within::<8192>(p, image, pointers, rows, segments, sealed, addresses, bytes);
     }
     if n <= 524288 {
-        return look_large(p, image, pointers, rows, segments, sealed, addresses, bytes);
+        return look_within::<65536>(p, image, pointers, rows, segments, sealed, addresses, bytes);
     }
-    if n <= 2097152 {
-        return look_huge(p, image, pointers, rows, segments, sealed, addresses, bytes);
+    if 2097152 < n {
+        if let Some(told) = look_by_records(
+            p, image, pointers, rows, segments, sealed, addresses, bytes,
+        ) {
+            return told;
+        }
     }
-    let told = look_by_records(p, image, pointers, rows, segments, sealed, addresses, bytes);
-    if !told.sure {
-        return look_huge(p, image, pointers, rows, segments, sealed, addresses, bytes);
-    }
-    let first = told.first;
-    let segment = disk_gather::row(rows, told.zone);
-    Chosen {
-        zone: told.zone,
-        segment,
-        live: told.live,
-        first,
-        odd: 1024,
-        outside: told.outside,
-    }
+    look_within::<262144>(p, image, pointers, rows, segments, sealed, addresses, bytes)
 }
 
 // Whether some segment is sealed.
@@ -697,95 +582,64 @@ fn any_sealed(p: Params, sealed: &[bool]) -> bool
     requires { p.Z ≤ length sealed.now }
     ensures { result ≡ any (λ g. get_or sealed.now g false) (below p.Z) }
 {
-    let mut g = 0;
-    while g < p.Z {
+    for g in 0..p.Z {
         if sealed[g] {
             return true;
         }
-        g += 1;
     }
     false
 }
 
 // 02, item 4: the zones of the segments, by zone on drive 0, and which remain.
-fn find_kept(
-    p: Params,
-    image: &[u8],
-    pointers: &[u8],
-    offline: &[u8],
-    rows: &mut [u32],
-    kept: &mut [bool],
-)
-    requires p_value { in_range p ≡ true }
-    requires whole { Whole p (mk_disk image.now pointers.now) × (length offline.now ≡ offline_len p) }
-    requires z_in_bounds { (8 * p.Z ≤ length rows.old) × (p.Z ≤ length kept.old) }
-    ensures flags_rows { FlagsRows p (view_of p offline.now image.now pointers.now) 0 rows.new }
-    ensures keeps { Keeps p (view_of p offline.now image.now pointers.now) 0 kept.new }
+fn find_kept(drives: &Drives<'_>, rows: &mut [u32], kept: &mut [bool])
+    requires z_in_bounds { (8 * drives.now.p.Z ≤ length rows.old) × (drives.now.p.Z ≤ length kept.old) }
+    ensures flags_rows { FlagsRows drives.now.p (viewed drives.now) 0 rows.new }
+    ensures keeps { Keeps drives.now.p (viewed drives.now) 0 kept.new }
 {
     let mut serials = [0u64; 1024];
     let mut left = [false; 1024];
-    disk_gather::gather(
-        p,
-        image,
-        pointers,
-        offline,
-        0,
-        rows,
-        &mut serials,
-        &mut left,
-        kept,
-    );
+    disk_gather::gather(drives, 0, rows, &mut serials, &mut left, kept);
 }
 
 // 01, Reclaim: the sealed segment with fewest live blocks, lowest zone on drive 0 on a tie, and its first live block not in flight. Where none is
 // sealed the table is not looked at.
-pub fn look(
-    p: Params,
-    image: &[u8],
-    pointers: &[u8],
-    offline: &[u8],
-    addresses: &[u8],
-    bytes: &[u8],
-) -> Chosen
-    requires p_value { in_range p ≡ true }
-    requires whole { Whole p (mk_disk image.now pointers.now) × (length offline.now ≡ offline_len p) }
-    requires addresses_len { (length addresses.now ≡ addresses_len p) × (length bytes.now ≡ state_len) }
-    ensures { Looked p (view_of p offline.now image.now pointers.now) addresses.now (state_of bytes.now) result }
+pub fn look(drives: &Drives<'_>, addresses: &[u8], bytes: &[u8]) -> Chosen
+    requires addresses_len { (length addresses.now ≡ addresses_len drives.now.p) × (length bytes.now ≡ state_len) }
+    ensures { Looked drives.now.p (viewed drives.now) addresses.now (state_of bytes.now) result }
 {
     let mut rows = [0u32; 8192];
     let mut kept = [false; 1024];
-    find_kept(p, image, pointers, offline, &mut rows, &mut kept);
+    find_kept(drives, &mut rows, &mut kept);
     let mut sealed = [false; 1024];
-    call_reclaim_live::find_sealed(p, pointers, &rows, &kept, &mut sealed);
-    if !any_sealed(p, &sealed) {
-        return nobody(p);
+    call_reclaim_live::find_sealed(drives.p, drives.pointers, &rows, &kept, &mut sealed);
+    if !any_sealed(drives.p, &sealed) {
+        return nobody(drives.p);
     }
     let mut segments = [1024u16; 8192];
-    disk_gather::find_owners(p, &rows, &kept, &mut segments);
+    disk_gather::find_owners(drives.p, &rows, &kept, &mut segments);
     look_in(
-        p, image, pointers, &rows, &segments, &sealed, addresses, bytes,
+        drives.p,
+        drives.image,
+        drives.pointers,
+        &rows,
+        &segments,
+        &sealed,
+        addresses,
+        bytes,
     )
 }
 
 // 01, Refusals, 9; 02, item 4: some place of the table is no place of the image.
-pub fn any_outside(
-    p: Params,
-    image: &[u8],
-    pointers: &[u8],
-    offline: &[u8],
-    addresses: &[u8],
-) -> bool
-    requires p_value { in_range p ≡ true }
-    requires whole { Whole p (mk_disk image.now pointers.now) × (length offline.now ≡ offline_len p) }
-    requires addresses_len { length addresses.now ≡ addresses_len p }
-    ensures { table_faults p (view_of p offline.now image.now pointers.now) addresses.now ≡ cons_if result 0 [] }
+pub fn any_outside(drives: &Drives<'_>, addresses: &[u8]) -> bool
+    requires addresses_len { length addresses.now ≡ addresses_len drives.now.p }
+    ensures { table_faults drives.now.p (viewed drives.now) addresses.now ≡ cons_if result 0 [] }
 {
     let mut rows = [0u32; 8192];
     let mut kept = [false; 1024];
-    find_kept(p, image, pointers, offline, &mut rows, &mut kept);
+    find_kept(drives, &mut rows, &mut kept);
     let mut segments = [1024u16; 8192];
-    disk_gather::find_owners(p, &rows, &kept, &mut segments);
+    disk_gather::find_owners(drives.p, &rows, &kept, &mut segments);
     let mut used = [0usize; 1025];
-    let beyond = call_reclaim_entries::count_entries(p, addresses, &segments, &mut used);
+    let beyond = call_reclaim_entries::count_entries(drives.p, addresses, &segments, &mut used);
     beyond + used[1024] != 0
 }

@@ -1,8 +1,8 @@
 -- The ends of a restart: refused, cut, done (01, Restart; Store count; 02, item 4). Assumes nothing.
-use Rattle.std.specs.Prelude.{ℕ, ◌≤◌, ◌<◌, ltb, length, take, replicate, Bool, true, false, cond, ◌≡◌}
-use Rattle.mem_calls.specs.Left.{checked}
+use Rattle.std.specs.Prelude.{ℕ, ◌≤◌, ◌<◌, length, take, replicate, Bool, false, cond, Result, Ok, Err, IsErrAnd, ◌≡◌}
+use Rattle.mem_calls.specs.Left.{answer_of}
 use Rattle.spec.specs.Host.{after}
-use Rattle.mem_calls.specs.declared.Check.TheVariants.{Pass, Fail}
+use Rattle.mem_calls.specs.declared.Refusal.{Refusal}
 use Rattle.spec.specs.declared.Done.{Done}
 use Rattle.spec.specs.Calls.{first_refusal, Plan, mk_plan, decided, After, mk_after, cut_memory, outcome}
 use Rattle.spec.specs.Drives.{View, Store, store_view_of, Disk, store_disk, store_all}
@@ -14,7 +14,7 @@ use Rattle.spec.specs.Lists.Opt.{none, some}
 use Rattle.spec.specs.Memory.{Memory, mk_memory, zero_state}
 use Rattle.spec.specs.Params.{addresses_len, compact_len, named, present}
 use Rattle.spec.specs.Restart.{drop_stores, mend_stores, restart_stores, restart_memory, uncounted_in, report_of, restart_checks, restart_plan, restart_verdict}
-use Rattle.spec.specs.Segments.{remaining, Segment, segment_of, segments, recs_on, uncounted, unsealed}
+use Rattle.spec.specs.Segments.{remaining, Segment, segment_of, segments, recs_on, unsealed}
 use Rattle.spec.specs.declared.Answer.{Answer}
 use Rattle.spec.specs.declared.Answer.TheVariants.{Cut, Restarted}
 use Rattle.spec.specs.declared.Params.{Params}
@@ -25,7 +25,8 @@ use Rattle.law_basic.specs.Geometry.{Ranged}
 use Rattle.law_calls.specs.Refusals.{call_refused, call_done, call_cut}
 use Rattle.recover_stores.specs.Refit.{RefitReady}
 use Rattle.call_restart.specs.Order.{front_checks, rest_checks, restart_front_refused, Fronted, Rested, rested}
-use Rattle.call_restart.specs.declared.Ended.{Ended}
+use Rattle.call_restart.specs.declared.Halt.{Halt}
+use Rattle.call_restart.specs.declared.Halt.TheVariants.{Check, Count}
 use Rattle.law_restart.specs.Frames.{seen-after, whole_after}
 use Rattle.law_restart.specs.Settled.{AllGood, accepted_fine, settled}
 use Rattle.law_restart.specs.Stripes.{bad_data}
@@ -38,13 +39,11 @@ use Rattle.law_drives.specs.Tests.{or_neither}
 use Rattle.law_drives.specs.Unsealed.{loose}
 use Rattle.law_drives.specs.Zones.{Shaped}
 use Rattle.law_views.specs.Views.{Whole, AllFit, seen}
-use Rattle.disk_zones.specs.Made.{made_of, Storing, storing_all}
-use Rattle.disk_zones.specs.declared.Made.{Made}
-use Rattle.std.proofs.Common.{ne_eqb, ltb-true, ltb-false, ◌∙◌, subst}
+use Rattle.disk_zones.specs.Made.{too_few, Storing, storing_cut, storing_done, storing_all}
+use Rattle.std.proofs.Common.{ne_eqb, ◌∙◌, subst}
 use mathlib.Core.List.{List, [], ◌++◌, map}
 use Rattle.std.proofs.Math.Path.{refl, sym, ap}
 use Rattle.std.proofs.Math.Decide.{ℕ_discrete}
-use Rattle.law_checks.specs.Passed.{some_none}
 use Rattle.spec.specs.declared.Seg.{Seg}
 
 -- 01, Restart: what is due, by the missing drives
@@ -103,31 +102,31 @@ module _ (p : Params) (off : List ℕ) (k : Disk) (m : Memory) (gone n : ℕ) wh
 
 -- ---- what the drives are like behind the stores
 
--- 01, Restart: the checks behind the pointers of 9, then the stores
-pub record Settles (p : Params) (off : List ℕ) (gone n : ℕ) (k : Disk) (t : Ended) (k' : Disk) : Type 0 where
-  pub first : checked t.check ≡ first_refusal (rest_checks p (seen p off k) gone (segments p (seen p off k) gone))
-  pub same : (a : Answer) → checked t.check ≡ some a → k' ≡ k
-  pub cut_is : checked t.check ≡ none → t.cut ≡ ltb n (length (restart_stores p (seen p off k) gone (segments p (seen p off k) gone)))
-  pub disk_is : checked t.check ≡ none → k' ≡ store_all (store_disk p) (take n (restart_stores p (seen p off k) gone (segments p (seen p off k) gone))) k
-  pub loose_is : checked t.check ≡ none → t.loose ≡ uncounted_in p gone (segments p (seen p off k) gone)
-  pub whole_is : checked t.check ≡ none → t.cut ≡ false → Whole p k'
-  pub view_is : checked t.check ≡ none → t.cut ≡ false → seen p off k' ≡ store_all store_view_of (restart_stores p (seen p off k) gone (segments p (seen p off k) gone)) (seen p off k)
-  pub apart_is : checked t.check ≡ none → t.cut ≡ false → SpotsApart p (seen p off k') gone
-  pub good : checked t.check ≡ none → t.cut ≡ false → any (recs_fault p gone) (segments p (seen p off k') gone) ≡ false
+-- all stores made
+pub record AllStored (p : Params) (off : List ℕ) (gone n : ℕ) (k : Disk) (loose : ℕ) (k' : Disk) : Type 0 where
+  pub first : first_refusal (rest_checks p (seen p off k) gone (segments p (seen p off k) gone)) ≡ none
+  pub enough : length (restart_stores p (seen p off k) gone (segments p (seen p off k) gone)) ≤ n
+  pub disk_is : k' ≡ store_all (store_disk p) (take n (restart_stores p (seen p off k) gone (segments p (seen p off k) gone))) k
+  pub loose_is : loose ≡ uncounted_in p gone (segments p (seen p off k) gone)
+  pub whole_is : Whole p k'
+  pub view_is : seen p off k' ≡ store_all store_view_of (restart_stores p (seen p off k) gone (segments p (seen p off k) gone)) (seen p off k)
+  pub apart_is : SpotsApart p (seen p off k') gone
+  pub good : any (recs_fault p gone) (segments p (seen p off k') gone) ≡ false
 
-pub settles_refused : (p : Params) (off : List ℕ) (gone n : ℕ) (k : Disk) (a : Answer) → some a ≡ first_refusal (rest_checks p (seen p off k) gone (segments p (seen p off k) gone))
-    → Settles p off gone n k (record { check = Fail a; cut = false; loose = 0 }) k
-settles_refused p off gone n k a e = record {
-  first = e;
-  same = λ b q. refl;
-  cut_is = λ q. some_none q;
-  disk_is = λ q. some_none q;
-  loose_is = λ q. some_none q;
-  whole_is = λ q c. some_none q;
-  view_is = λ q c. some_none q;
-  apart_is = λ q c. some_none q;
-  good = λ q c. some_none q;
-}
+-- 01, Restart: the checks behind the pointers of 9, then the stores
+abbrev pub Settles : Params → List ℕ → ℕ → ℕ → Disk → Result ℕ Halt → Disk → Type 0
+Settles p off gone n k (Err (Check r)) k' =
+    (first_refusal (rest_checks p (seen p off k) gone (segments p (seen p off k) gone)) ≡ some (answer_of r)) × (k' ≡ k)
+Settles p off gone n k (Err Count) k' =
+    (first_refusal (rest_checks p (seen p off k) gone (segments p (seen p off k) gone)) ≡ none)
+    × (n < length (restart_stores p (seen p off k) gone (segments p (seen p off k) gone)))
+    × (k' ≡ store_all (store_disk p) (take n (restart_stores p (seen p off k) gone (segments p (seen p off k) gone))) k)
+Settles p off gone n k (Ok loose) k' = AllStored p off gone n k loose k'
+
+pub settles_refused : (p : Params) (off : List ℕ) (gone n : ℕ) (k : Disk) (r : Refusal) (t : Result ℕ Halt) → IsErrAnd t (λ h. h ≡ Check r)
+    → some (answer_of r) ≡ first_refusal (rest_checks p (seen p off k) gone (segments p (seen p off k) gone)) → Settles p off gone n k t k
+settles_refused p off gone n k r (Ok l) h e = absurd h
+settles_refused p off gone n k r (Err h) q e = subst (λ (x : Halt). Settles p off gone n k (Err x) k) (sym q) (sym e, refl)
 
 -- no bad record in any segment
 pub good_segments : (p : Params) (v : View) (gone : ℕ) → AllGood p v gone → any (recs_fault p gone) (segments p v gone) ≡ false
@@ -192,60 +191,54 @@ module _ (p : Params) (r : Ranged p) (off : List ℕ) (gone n : ℕ) (here : Her
           subst (λ (x : View). SpotsApart p x gone) (sym (e ∙ ap (λ (l : List Store). store_all store_view_of l (seen p off k)) f ∙ stores_none (seen p off k)))
           (accepted_apart p (seen p off k) gone acc here)
 
-  pub settles_stored : (made : Made) (k' : Disk) (loose : ℕ) → Storing p n (restart_stores p (seen p off k) gone (segments p (seen p off k) gone)) k made k'
-      → loose ≡ uncounted_in p gone (segments p (seen p off k) gone)
-      → Settles p off gone n k (record { check = Pass; cut = made.cut; loose = loose }) k'
-  settles_stored made k' loose s el = record {
-    first = e;
-    same = λ a q. some_none (sym q);
-    cut_is = λ q. ap (λ (x : Made). x.cut) s.made ∙ cut!;
-    disk_is = λ q. s.disk;
-    loose_is = λ q. el;
-    whole_is = λ q c. whole_after p r off k k' st w fit_and_good.0 (storing_all p n st k made k' s c);
-    view_is = λ q c. seen-after p r off k k' st w fit_and_good.0 (storing_all p n st k made k' s c);
-    apart_is = λ q c. ends_still_apart (seen p off k') (seen-after p r off k k' st w fit_and_good.0 (storing_all p n st k made k' s c));
-    good =
-        λ q c. good_segments p (seen p off k') gone (subst (λ (u : View). AllGood p u gone) (sym (seen-after p r off k k' st w fit_and_good.0 (storing_all p n st k made k' s c)))
-        fit_and_good.1);
-  }
-    where
-      cut! : (made_of n (length st)).cut ≡ ltb n (length st)
-      cut! = unfold made_of in refl
+  pub settles_cut : (t : Result ℕ Halt) (k' : Disk) → IsErrAnd t (λ h. h ≡ Count)
+      → Storing p n (restart_stores p (seen p off k) gone (segments p (seen p off k) gone)) k too_few k' → Settles p off gone n k t k'
+  settles_cut (Ok l) k' h s = absurd h
+  settles_cut (Err h) k' q s = subst (λ (x : Halt). Settles p off gone n k (Err x) k') (sym q) (sym e, storing_cut p n st k k' s, s.disk)
+
+  pub settles_stored : (left : ℕ) (k' : Disk) (loose : ℕ) → Storing p n (restart_stores p (seen p off k) gone (segments p (seen p off k) gone)) k (Ok left) k'
+      → loose ≡ uncounted_in p gone (segments p (seen p off k) gone) → Settles p off gone n k (Ok loose) k'
+  settles_stored left k' u s el =
+      let all = storing_all p n st k left k' s in
+      let v = seen-after p r off k k' st w fit_and_good.0 all in record {
+        first = sym e;
+        enough = storing_done p n st k left k' s;
+        disk_is = s.disk;
+        loose_is = el;
+        whole_is = whole_after p r off k k' st w fit_and_good.0 all;
+        view_is = v;
+        apart_is = ends_still_apart (seen p off k') v;
+        good = good_segments p (seen p off k') gone (subst (λ (u : View). AllGood p u gone) (sym v) fit_and_good.1);
+      }
 
 -- ---- the three ends
 
-module _ (p : Params) (off : List ℕ) (k : Disk) (m : Memory) (gone n : ℕ) (t : Ended) (k' : Disk) (s : Settles p off gone n k t k') where
-  pub ends_restart_refused : (a : Answer) → t.check ≡ Fail a → mk_after a k' m [] ≡ recovered p off k m gone n
-  ends_restart_refused a e =
-      ap (λ (x : Disk). mk_after a x m []) (s.same a (ap checked e))
-      ∙ recovered-refused p off k m gone n a (sym s.first ∙ ap checked e)
+module _ (p : Params) (off : List ℕ) (k : Disk) (m : Memory) (gone n : ℕ) (k' : Disk) where
+  pub ends_restart_refused : (r : Refusal) → Settles p off gone n k (Err (Check r)) k' → mk_after (answer_of r) k' m [] ≡ recovered p off k m gone n
+  ends_restart_refused r s = ap (λ (x : Disk). mk_after (answer_of r) x m []) s.1 ∙ recovered-refused p off k m gone n (answer_of r) s.0
 
-  module _ (e : t.check ≡ Pass) where
-    none! : checked t.check ≡ none
-    none! = ap checked e
+  pub ends_restart_cut : Settles p off gone n k (Err Count) k' → (d : Done) (ad co : List ℕ) → length m.addresses ≡ addresses_len p → length m.compact ≡ compact_len p
+      → d.answer ≡ Cut → d.state ≡ zero_state
+      → ad ≡ replicate (length m.addresses) 0 → co ≡ replicate (length m.compact) 0 → after d k'.image k'.pointers ad co m.inflight [] ≡ recovered p off k m gone n
+  ends_restart_cut s d ad co la lc ea es ead eco =
+      (λ j. mk_after (ea j) (s.2 j) (mk_memory (es j) (ead j) (eco j) m.inflight) [])
+      ∙ ap (λ (x : Memory). mk_after Cut (store_all (store_disk p) (take n (restart_stores p (seen p off k) gone (segments p (seen p off k) gone))) k) x []) cleared!
+      ∙ recovered-cut p off k m gone n s.0 s.1
+    where
+      cleared! : mk_memory zero_state (replicate (length m.addresses) 0) (replicate (length m.compact) 0) m.inflight ≡ cut_memory p m
+      cleared! = unfold cut_memory in λ j. mk_memory zero_state (replicate (la j) 0) (replicate (lc j) 0) m.inflight
 
-    pub ends_restart_cut : t.cut ≡ true → (d : Done) (ad co : List ℕ) → length m.addresses ≡ addresses_len p → length m.compact ≡ compact_len p → d.answer ≡ Cut
-        → d.state ≡ zero_state
-        → ad ≡ replicate (length m.addresses) 0 → co ≡ replicate (length m.compact) 0 → after d k'.image k'.pointers ad co m.inflight [] ≡ recovered p off k m gone n
-    ends_restart_cut c d ad co la lc ea es ead eco =
-        (λ j. mk_after (ea j) (s.disk_is none! j) (mk_memory (es j) (ead j) (eco j) m.inflight) [])
-        ∙ ap (λ (x : Memory). mk_after Cut (store_all (store_disk p) (take n (restart_stores p (seen p off k) gone (segments p (seen p off k) gone))) k) x []) cleared!
-        ∙ recovered-cut p off k m gone n (sym s.first ∙ none!) (ltb-true n (length (restart_stores p (seen p off k) gone (segments p (seen p off k) gone))) (sym (s.cut_is none!) ∙ c))
-      where
-        cleared! : mk_memory zero_state (replicate (length m.addresses) 0) (replicate (length m.compact) 0) m.inflight ≡ cut_memory p m
-        cleared! = unfold cut_memory in λ j. mk_memory zero_state (replicate (la j) 0) (replicate (lc j) 0) m.inflight
-
-    pub ends_restart_done : t.cut ≡ false → (st : State) (ad co : List ℕ) → ((fl : List ℕ) → mk_memory st ad co fl ≡ restart_memory p (seen p off k') gone fl)
-        → after (record { answer = Restarted (record { uncounted = t.loose }); state = st }) k'.image k'.pointers ad co m.inflight [] ≡ recovered p off k m gone n
-    ends_restart_done c st ad co f =
-        (λ j. mk_after (Restarted (record { uncounted = s.loose_is none! j })) (s.disk_is none! j)
-        ((f m.inflight ∙ ap (λ (u : View). restart_memory p u gone m.inflight) (s.view_is none! c)) j) [])
-        ∙ answer!
-        ∙ recovered_done p off k m gone n (sym s.first ∙ none!) (ltb-false n (length (restart_stores p (seen p off k) gone (segments p (seen p off k) gone))) (sym (s.cut_is none!) ∙ c))
-      where
-        answer! : mk_after (Restarted (record { uncounted = uncounted_in p gone (segments p (seen p off k) gone) }))
-            (store_all (store_disk p) (take n (restart_stores p (seen p off k) gone (segments p (seen p off k) gone))) k)
-            (restart_memory p (store_all store_view_of (restart_stores p (seen p off k) gone (segments p (seen p off k) gone)) (seen p off k)) gone m.inflight) []
-            ≡ mk_after (Restarted (report_of p gone (segments p (seen p off k) gone))) (store_all (store_disk p) (take n (restart_stores p (seen p off k) gone (segments p (seen p off k) gone))) k)
-            (restart_memory p (store_all store_view_of (restart_stores p (seen p off k) gone (segments p (seen p off k) gone)) (seen p off k)) gone m.inflight) []
-        answer! = unfold report_of in refl
+  pub ends_restart_done : (loose : ℕ) → Settles p off gone n k (Ok loose) k' → (st : State) (ad co : List ℕ)
+      → ((fl : List ℕ) → mk_memory st ad co fl ≡ restart_memory p (seen p off k') gone fl)
+      → after (record { answer = Restarted (record { uncounted = loose }); state = st }) k'.image k'.pointers ad co m.inflight [] ≡ recovered p off k m gone n
+  ends_restart_done u s x ad co f =
+      (λ j. mk_after (Restarted (record { uncounted = s.loose_is j })) (s.disk_is j) ((f m.inflight ∙ ap (λ (u : View). restart_memory p u gone m.inflight) s.view_is) j) [])
+      ∙ answer!
+      ∙ recovered_done p off k m gone n s.first s.enough
+    where
+      answer! : mk_after (Restarted (record { uncounted = uncounted_in p gone (segments p (seen p off k) gone) }))
+          (store_all (store_disk p) (take n (restart_stores p (seen p off k) gone (segments p (seen p off k) gone))) k)
+          (restart_memory p (store_all store_view_of (restart_stores p (seen p off k) gone (segments p (seen p off k) gone)) (seen p off k)) gone m.inflight) []
+          ≡ mk_after (Restarted (report_of p gone (segments p (seen p off k) gone))) (store_all (store_disk p) (take n (restart_stores p (seen p off k) gone (segments p (seen p off k) gone))) k)
+          (restart_memory p (store_all store_view_of (restart_stores p (seen p off k) gone (segments p (seen p off k) gone)) (seen p off k)) gone m.inflight) []
+      answer! = unfold report_of in refl

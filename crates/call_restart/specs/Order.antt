@@ -1,5 +1,5 @@
 -- The checks of a restart one after the other: each refuses, or leaves it to the next (01, Refusals; 02, item 4). Assumes nothing.
-use Rattle.std.specs.Prelude.{ℕ, ◌≤◌, ◌<◌, ltb, Bool, true, false, cond, ◌&&◌, ◌||◌, ◌≡◌}
+use Rattle.std.specs.Prelude.{Option, Some, None, ℕ, ◌≤◌, ◌<◌, ltb, Bool, true, false, cond, ◌&&◌, ◌||◌, ◌≡◌}
 use Rattle.spec.specs.Calls.{Check, first_refusal}
 use Rattle.spec.specs.Calls.Check.{rule, zones}
 use Rattle.spec.specs.Counts.{last_count}
@@ -17,8 +17,10 @@ use Rattle.spec.specs.declared.Params.{Params}
 use Rattle.recover_check.specs.Faults.{Examined, ragged_by}
 use Rattle.recover_check.specs.Mends.{names_zone_lem, zone_le, rewrites_is}
 use Rattle.recover_check.specs.declared.Exam.{Exam}
-use Rattle.recover_headers.specs.Lowest.{low_none, low-named, low-le}
-use Rattle.law_basic.specs.Ranges.{and_both}
+use Rattle.recover_headers.specs.Lowest.{low-named}
+use Rattle.disk_gather.specs.Ranges.{opt_first, opt_first_or, opt_first_none, opt_first_low}
+use Rattle.std.specs.Option.{unwrap_or, is_none}
+use Rattle.law_basic.specs.Ranges.{and_both, nil_is}
 use Rattle.law_basic.specs.Geometry.{ranged}
 use Rattle.mem_calls.specs.Listed.{list_rule_of, list_fails, list_passes}
 use Rattle.law_calls.specs.Refusals.{none_left, or_next, refusal_append, rule_fails, rule_passes, zones_pass, rule_free, zones_free}
@@ -135,18 +137,18 @@ module _ (p : Params) (long : Bool) (v : View) (d : ℕ) where
     unfolding front_checks
     restart_lengths_fail e = sym (rule_passes 1 wrong1 (rule 2 (not long) ∷ list_rules p v ++ tail3) ok ∙ rule_fails 2 (not long) (list_rules p v ++ tail3) (ap not e))
 
-    module _ (l : long ≡ true) (n : ℕ) (is : n ≡ list_rule_of p v.offline) where
+    module _ (l : long ≡ true) where
       lengths_past : first_refusal (front_checks p long v d) ≡ first_refusal (list_rules p v ++ tail3)
       unfolding front_checks
       lengths_past = rule_passes 1 wrong1 (rule 2 (not long) ∷ list_rules p v ++ tail3) ok ∙ rule_passes 2 (not long) (list_rules p v ++ tail3) (ap not l)
 
-      -- 02, item 4: n is what `list_rule` answers
-      pub restart_list_fails : (n ≡ 0 → ⊥) → some (Refused n) ≡ first_refusal (front_checks p long v d)
-      restart_list_fails f = sym (lengths_past ∙ list_fails p v tail3 n is f)
+      -- 02, item 4
+      pub restart_list_fails : (r : Answer) → some r ≡ list_rule_of p v.offline → some r ≡ first_refusal (front_checks p long v d)
+      restart_list_fails r e = list_fails p v tail3 r e ∙ sym lengths_past
 
-      module _ (zero : n ≡ 0) where
+      module _ (fits : none ≡ list_rule_of p v.offline) where
         front_past_holds : first_refusal (front_checks p long v d) ≡ first_refusal (zones (pointer_faults p v (named d)) ∷ [])
-        front_past_holds = lengths_past ∙ list_passes p v tail3 n is zero
+        front_past_holds = lengths_past ∙ list_passes p v tail3 fits
 
         bad! : ℕ → Bool
         bad! z = any (λ e. is_good p v.offline e z && ltb (capacity p) (pointer_at v e z)) (present p (named d))
@@ -155,17 +157,17 @@ module _ (p : Params) (long : Bool) (v : View) (d : ℕ) where
         unfolding pointer_faults bad!
         pointers_are = refl
 
-        pub restart_pointers_fail : (z : ℕ) → z ≡ first_or p.Z (pointer_faults p v (named d)) → z < p.Z → some (BadZone z) ≡ first_refusal (front_checks p long v d)
-        restart_pointers_fail z e h =
-            sym (front_past_holds
-            ∙ low-named bad! p.Z (pointer_faults p v (named d)) pointers_are [] (subst (λ (y : ℕ). y < p.Z) e h)
-            ∙ ap (λ (y : ℕ). some (BadZone y)) (sym e))
+        pub restart_pointers_fail : (z : ℕ) → Some z ≡ opt_first (pointer_faults p v (named d)) → some (BadZone z) ≡ first_refusal (front_checks p long v d)
+        restart_pointers_fail z e =
+            let l = pointer_faults p v (named d) in
+            let q : first_or p.Z l ≡ z = sym (opt_first_or p.Z l) ∙ ap (λ (o : Option ℕ). unwrap_or o p.Z) (sym e) in
+            let h : z < p.Z = opt_first_low bad! p.Z z (ap opt_first (sym pointers_are) ∙ sym e) in
+            sym (front_past_holds ∙ low-named bad! p.Z l pointers_are [] (omega arith) ∙ ap (λ (y : ℕ). some (BadZone y)) q)
 
-        pub restart_pointers_pass : (z : ℕ) → z ≡ first_or p.Z (pointer_faults p v (named d)) → p.Z ≤ z → none ≡ first_refusal (front_checks p long v d)
-        restart_pointers_pass z e h =
-            let l = low-le bad! p.Z (pointer_faults p v (named d)) pointers_are in
-            let q : first_or p.Z (pointer_faults p v (named d)) ≡ p.Z = omega arith in
-            sym (front_past_holds ∙ zones_pass (pointer_faults p v (named d)) [] (low_none bad! p.Z (pointer_faults p v (named d)) pointers_are q) ∙ none_left)
+        pub restart_pointers_pass : None ≡ opt_first (pointer_faults p v (named d)) → none ≡ first_refusal (front_checks p long v d)
+        restart_pointers_pass e =
+            let l = pointer_faults p v (named d) in
+            sym (front_past_holds ∙ zones_pass l [] (nil_is l (sym (opt_first_none l) ∙ ap is_none (sym e))) ∙ none_left)
 
 -- ---- the checks behind them, in order
 

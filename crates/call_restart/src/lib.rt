@@ -18,14 +18,16 @@ ghost use Rattle.recover_stores.specs.Refit.{RefitReady};
 ghost use Rattle.recover_segments.specs.Taken.{TakenOfTaken};
 ghost use Rattle.disk_gather.specs.Flags.{Keeps, FlagsRows, Serials};
 ghost use Rattle.call_restart.specs.Ends.{recovered, Settles};
+ghost use Rattle.call_restart.specs.declared.Halt.TheVariants.{Check, Count};
 ghost use Rattle.recover_check.specs.Faults.{Examined, ragged_by};
 ghost use Rattle.call_restart.specs.Order.{front_checks, rest_checks};
 ghost use Rattle.law_drives.specs.Segs.{Here};
 ghost use Rattle.law_views.specs.Views.{Whole};
 ghost use Rattle.disk_zones.specs.Made.{Storing};
 
-use disk_zones::Made;
-use mem_calls::Check;
+use disk_drives::Drives;
+use disk_zones::TooFew;
+use mem_calls::Refusal;
 use recover_check::Exam;
 use spec::{Answer, Done, Params, Report, Serial, State};
 
@@ -34,12 +36,27 @@ const ZONES: usize = 8 * 1024;
 
 const OF_DRIVE: usize = 1024;
 
-// What the checks behind the pointers of 9 say, whether the stores were cut, and the uncounted stripes as found before them.
-#[derive(Clone, Copy)]
-pub struct Ended {
-    pub check: Check,
-    pub cut: bool,
-    pub loose: u64,
+// Why a restart ends before the memory is loaded: a check holds, or the store count is too small.
+#[derive(Clone, Copy, Debug, PartialEq, Eq)]
+pub enum Halt {
+    Check(Refusal),
+    Count,
+}
+
+impl From<Refusal> for Halt {
+    ghost from_gives = { λ r h. h ≡ Check r };
+
+    fn from(why: Refusal) -> Halt {
+        Halt::Check(why)
+    }
+}
+
+impl From<TooFew> for Halt {
+    ghost from_gives = { λ r h. h ≡ Count };
+
+    fn from(_: TooFew) -> Halt {
+        Halt::Count
+    }
 }
 
 // 01, Refusals, 1: the parameters, and the missing drive below N or 255.
@@ -65,28 +82,22 @@ fn checks(
     compact: &[u8],
     inflight: &[u8],
     missing: usize,
-) -> Check
+) -> Result<(), Refusal>
     ensures { (st : StateOf)
         → checked result ≡ first_refusal (front_checks p (lent_ok_of p offline.now (mk_disk image.now pointers.now)
         (mk_memory st addresses.now compact.now inflight.now))
         (view_of p offline.now image.now pointers.now) missing) }
 {
     if bad_numbers(p, missing) {
-        return Check::Fail(Answer::Refused(1));
+        return Err(Refusal::Range);
     }
-    if !mem_calls::lent_ok(p, offline, image, pointers, addresses, compact, inflight) {
-        return Check::Fail(Answer::Refused(2));
-    }
-    let rule = mem_calls::list_rule(p, offline);
-    if rule != 0 {
-        return Check::Fail(Answer::Refused(rule));
-    }
+    mem_calls::lent_ok(p, offline, image, pointers, addresses, compact, inflight)?;
+    mem_calls::list_rule(p, offline)?;
     let gone = bits_masks::only_drive(missing);
-    let zone = recover_headers::pointer_fault(p, pointers, offline, gone);
-    if zone < p.Z {
-        return Check::Fail(Answer::BadZone(zone as u64));
+    if let Some(zone) = recover_headers::pointer_fault(p, pointers, offline, gone) {
+        return Err(Refusal::BadZone(zone as u64));
     }
-    Check::Pass
+    Ok(())
 }
 
 // 01, Restart, 4: the unsealed segment's counted stripes aren't 0 to c - 1, or other chunks exist; false if there is none.
@@ -111,7 +122,7 @@ fn rest_checks(
     serials: &[u64],
     marks: &[bool],
     e: Exam,
-) -> Check
+) -> Result<(), Refusal>
     requires p_value { in_range p ≡ true }
     requires z_in_bounds { (p.Z ≤ length kept.now) × (p.Z ≤ length serials.now) × (p.N * p.Z ≤ length marks.now) × (length offline.now ≡ offline_len p) }
     ensures { (im ps : List ℕ)
@@ -122,22 +133,22 @@ fn rest_checks(
         → checked result ≡ first_refusal (rest_checks p (view_of p offline.now im ps) gone (segments p (view_of p offline.now im ps) gone)) }
 {
     if e.zone < p.Z {
-        return Check::Fail(Answer::BadZone(e.zone as u64));
+        return Err(Refusal::BadZone(e.zone as u64));
     }
     if gone != 0 {
-        return Check::Pass;
+        return Ok(());
     }
     if !is_ragged(p, e) {
-        return Check::Pass;
+        return Ok(());
     }
     let most = recover_segments::greatest_serial(p, kept, serials);
     if most.0 == Serial::LAST.0 {
-        return Check::Fail(Answer::Refused(6));
+        return Err(Refusal::NoCount);
     }
     if recover_segments::none_free(p, offline, marks) {
-        return Check::Fail(Answer::Refused(8));
+        return Err(Refusal::Full);
     }
-    Check::Pass
+    Ok(())
 }
 
 // 01, Restart, 4 and 5: the stores of a restart, under a store count.
@@ -153,7 +164,7 @@ fn stores(
     marks: &[bool],
     e: Exam,
     count: u64,
-) -> Made
+) -> Result<u64, TooFew>
     requires p_value { in_range p ≡ true }
     requires whole { Whole p (mk_disk image.old pointers.old) × (length offline.now ≡ offline_len p) }
     requires keeps { Keeps p (view_of p offline.now image.old pointers.old) gone kept.now × FlagsRows p (view_of p offline.now image.old pointers.old) gone rows.now }
@@ -166,10 +177,7 @@ fn stores(
         (mk_disk image.old pointers.old) result (mk_disk image.new pointers.new) }
 {
     if gone != 0 {
-        return Made {
-            left: count,
-            cut: false,
-        };
+        return Ok(count);
     }
     let whole = e.counted == p.S;
     let ragged = is_ragged(p, e);
@@ -178,7 +186,7 @@ fn stores(
     )
 }
 
-// 01, Restart: the checks behind the pointers of 9, then the stores; marks is room for the zones that the remaining segments have.
+// 01, Restart: the checks behind the pointers of 9, then the stores; the answer is the number of uncounted stripes, as found before them. marks is room for the zones that the remaining segments have.
 fn settle(
     p: Params,
     offline: &[u8],
@@ -190,7 +198,7 @@ fn settle(
     serials: &[u64],
     marks: &mut [bool],
     count: u64,
-) -> Ended
+) -> Result<u64, Halt>
     requires p_value { in_range p ≡ true }
     requires whole { Whole p (mk_disk image.old pointers.old) × (length offline.now ≡ offline_len p) × Here p gone }
     requires gone_value { pointer_faults p (view_of p offline.now image.old pointers.old) gone ≡ [] }
@@ -198,24 +206,19 @@ fn settle(
     requires serials { Serials p (view_of p offline.now image.old pointers.old) gone serials.now × (p.N * p.Z ≤ length marks.old) }
     ensures { Settles p offline.now gone count (mk_disk image.old pointers.old) result (mk_disk image.new pointers.new) }
 {
-    let e = recover_check::examine(p, image, pointers, offline, gone, kept, serials, rows);
+    let drives = Drives {
+        p,
+        image,
+        pointers,
+        offline,
+    };
+    let e = recover_check::examine(&drives, gone, kept, serials, rows);
     recover_segments::taken(p, kept, rows, marks);
-    let c = rest_checks(p, offline, gone, kept, serials, marks, e);
-    if let Check::Fail(answer) = c {
-        return Ended {
-            check: Check::Fail(answer),
-            cut: false,
-            loose: 0,
-        };
-    }
-    let made = stores(
+    rest_checks(p, offline, gone, kept, serials, marks, e)?;
+    stores(
         p, offline, image, pointers, gone, kept, rows, serials, marks, e, count,
-    );
-    Ended {
-        check: Check::Pass,
-        cut: made.cut,
-        loose: e.loose,
-    }
+    )?;
+    Ok(e.loose)
 }
 
 // 01, Restart: checks and stores, then the memory that the drives say behind them; the arrays are room for the segments.
@@ -243,23 +246,33 @@ fn recover_in(
     ensures { (fl : List ℕ) → after result image.new pointers.new addresses.new compact.new fl []
         ≡ recovered p offline.now (mk_disk image.old pointers.old) (mk_memory state addresses.old compact.old fl) gone count }
 {
-    disk_gather::gather(
-        p, image, pointers, offline, gone, rows, serials, flags, kept,
-    );
-    let t = settle(
+    let drives = Drives {
+        p,
+        image,
+        pointers,
+        offline,
+    };
+    disk_gather::gather(&drives, gone, rows, serials, flags, kept);
+    let uncounted = match settle(
         p, offline, image, pointers, gone, kept, rows, serials, marks, count,
-    );
-    let c = t.check;
-    if let Check::Fail(answer) = c {
-        return Done { answer, state };
-    }
-    if t.cut {
-        return mem_calls::cut(addresses, compact);
-    }
-    let report = Report { uncounted: t.loose };
-    disk_gather::gather(
-        p, image, pointers, offline, gone, rows, serials, flags, kept,
-    );
+    ) {
+        Err(Halt::Check(why)) => {
+            return Done {
+                answer: Answer::from(why),
+                state,
+            };
+        }
+        Err(Halt::Count) => return mem_calls::cut(addresses, compact),
+        Ok(n) => n,
+    };
+    let report = Report { uncounted };
+    let drives = Drives {
+        p,
+        image,
+        pointers,
+        offline,
+    };
+    disk_gather::gather(&drives, gone, rows, serials, flags, kept);
     let next = recover_tables::load(
         p, image, pointers, offline, addresses, compact, gone, rows, serials, kept,
     );
@@ -328,11 +341,13 @@ pub fn restart(
         ≡ call_disk p offline.now (mk_disk image.old pointers.old)
         (mk_memory state addresses.old compact.old inflight.now) (restart missing count) }
 {
-    let c = checks(
+    if let Err(why) = checks(
         p, offline, image, pointers, addresses, compact, inflight, missing,
-    );
-    if let Check::Fail(answer) = c {
-        return Done { answer, state };
+    ) {
+        return Done {
+            answer: Answer::from(why),
+            state,
+        };
     }
     let gone = bits_masks::only_drive(missing);
     recover(

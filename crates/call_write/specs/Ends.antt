@@ -1,5 +1,5 @@
 -- The three ends of a write: refused, cut, done (01, Write; Store count). Assumes nothing.
-use Rattle.std.specs.Prelude.{ℕ, suc, ◌≤◌, ◌<◌, take, replicate, Bool, true, false, cond, not, ◌≡◌}
+use Rattle.std.specs.Prelude.{Ok, Err, ℕ, suc, ◌≤◌, ◌<◌, take, replicate, Bool, true, false, cond, not, ◌≡◌}
 use Rattle.spec.specs.Answers.{kind, is_refused, is_cut_of}
 use Rattle.spec.specs.Calls.{After, mk_after, cut_memory}
 use Rattle.spec.specs.Counts.{last_count, a_stamp}
@@ -98,31 +98,31 @@ state_cut st c e = after-cut st c (ap is_refused e) (ap is_cut_of e)
 -- ---- what the code leaves at each end
 
 module _ (p : Params) (off : List ℕ) (k : Disk) (m : Memory) (a : ℕ) (b : List ℕ) (n : ℕ) (some_bytes : is_nil b ≡ false) (none! : write_refusal p off k m a b ≡ none)
-    (o : Opened) (k' : Disk)
-    (h : OpeningStores p off m.state n k o k') where
+    (k' : Disk) where
   -- 01, Write: what a block asks of the state with its segment open
-  write_plan_ready : m.state.stamp.0 < 18446744073709551616
+  write_plan_ready : (o : Opened) → OpeningStores p off m.state n k (Ok o) k' → m.state.stamp.0 < 18446744073709551616
       → (slot_for p m.state < 8) × (not (has_filling p m.state) ≡ false → (slot_row m.state (slot_for p m.state)).filled < data_count p) × (o.next < 4294967295)
       × (m.state.stamp.0 < last_count)
-  write_plan_ready fit =
+  write_plan_ready o h fit =
       let r = write_ready p off k m a b none! in
       let st = m.state in
       let i = slot_for p st in
       let s : i < 8 = slot_lt p st r.waits in
       let x : (opened_by p st).next < 4294967295 = opened_next p st 4294967295 (omega (arith, r.next_high, (ranged p r.ranged).stripes_high)) in
-      (s, λ e. subst (λ (y : ℕ). y < data_count p) (sym (row_filled st i)) (slot_fills p st e s), omega (arith, h.next, x), lt_of_le-ne (omega arith) r.stamp_left)
+      (s, λ e. subst (λ (y : ℕ). y < data_count p) (sym (row_filled st i)) (slot_fills p st e s), omega (arith, h.front.next, x), lt_of_le-ne (omega arith) r.stamp_left)
 
   -- cut
-  pub ends_write_cut : o.cut ≡ true → (c : Change) (ad co : List ℕ) → c.answer ≡ Cut → ad ≡ replicate (length m.addresses) 0 → co ≡ replicate (length m.compact) 0
+  pub ends_write_cut : OpeningStores p off m.state n k (Err (record {})) k' → (c : Change) (ad co : List ℕ) → c.answer ≡ Cut
+      → ad ≡ replicate (length m.addresses) 0 → co ≡ replicate (length m.compact) 0
       → after_change m.state c k'.image k'.pointers ad co m.inflight b ≡ call_disk p off k m (write a b n)
-  ends_write_cut t c ad co e f g =
+  ends_write_cut h c ad co e f g =
       let w = write_ready p off k m a b none! in
       let q : mk_memory (state_after m.state c) ad co m.inflight ≡ cut_memory p m =
       cut_memory_lem p m (state_after m.state c) ad co w.addresses_long w.compact_long (state_cut m.state c e) f g in
       (λ j. mk_after (e j) (h.disk j) (q j) b)
-      ∙ write_cut p off k m a b n some_bytes none! (ltb-true n (length (open_stores p off k m.state)) (sym h.cut ∙ t))
+      ∙ write_cut p off k m a b n some_bytes none! (ltb-true n (length (open_stores p off k m.state)) (sym h.cut))
 
-  module _ (sized : RowsSized m.state) where
+  module _ (o : Opened) (h : OpeningStores p off m.state n k (Ok o) k') (sized : RowsSized m.state) where
     abbrev st : State
     st = m.state
 
@@ -143,9 +143,9 @@ module _ (p : Params) (off : List ℕ) (k : Disk) (m : Memory) (a : ℕ) (b : Li
         after_done st c refl refl ∙ changed_row st c (slot_lt p st (write_ready p off k m a b none!).waits)
 
     -- done
-    ends_write_done : o.cut ≡ false → (c : Change) (fl : List ℕ) → c ≡ planned (front_of st) (aim_of p st) o (sent_at o.next) → fl ≡ (sent_at o.next).inflight
+    ends_write_done : (c : Change) (fl : List ℕ) → c ≡ planned (front_of st) (aim_of p st) o (sent_at o.next) → fl ≡ (sent_at o.next).inflight
         → after_change st c k'.image k'.pointers m.addresses m.compact fl b ≡ call_disk p off k m (write a b n)
-    ends_write_done t c fl e f =
+    ends_write_done c fl e f =
         let w = write_ready p off k m a b none! in
         let s = slot_lt p st w.waits in
         let d : data_count p < 8 = omega (arith, data_count_high p (ranged p w.ranged)) in
@@ -155,28 +155,29 @@ module _ (p : Params) (off : List ℕ) (k : Disk) (m : Memory) (a : ℕ) (b : Li
         (λ j. after_change st (e j) k'.image k'.pointers m.addresses m.compact (f j) b)
         ∙ ap (λ (x : State). mk_after (Sent (a_stamp tt') (sent_at o.next).row.number (sent_at o.next).drive) k'
         (mk_memory x m.addresses m.compact (sent_at o.next).inflight) b) write-state
-        ∙ (λ j. out (h.serial j) (h.opened j) (sent_at (h.next j)))
+        ∙ (λ j. out (h.front.serial j) (h.front.opened j) (sent_at (h.front.next j)))
         ∙ (λ j. let q = sending_row p st s sized (seen p off k) m.inflight a tt' 1 b (start_room p st s sized d) j in
         mk_after (Sent (a_stamp tt') q.stripe q.drive) (h.disk j) (mk_memory (set_stamp q.state tt') m.addresses m.compact q.inflight) b)
-        ∙ write_done p off k m a b n some_bytes none! (ltb-false n (length (open_stores p off k st)) (sym h.cut ∙ t))
+        ∙ write_done p off k m a b n some_bytes none! (ltb-false n (length (open_stores p off k st)) (sym h.cut))
 
   -- the same of the front, the aim and the stripe that the code has
-  module _ (f : Front) (same : f ≡ front_of m.state) (al : Aim) (aimed : al ≡ aim_of p m.state) (row : Row) (taken : row ≡ slot_row m.state al.slot) where
+  module _ (o : Opened) (h : OpeningStores p off m.state n k (Ok o) k') (f : Front) (same : f ≡ front_of m.state) (al : Aim) (aimed : al ≡ aim_of p m.state)
+      (row : Row) (taken : row ≡ slot_row m.state al.slot) where
     slot_row_is : row ≡ slot_row m.state (slot_for p m.state)
     slot_row_is = taken ∙ ap (λ (x : Aim). slot_row m.state x.slot) aimed
 
     pub plan_asks : m.state.stamp.0 < 18446744073709551616 → (al.slot < 8) × (al.begins ≡ false → row.filled < data_count p) × (o.next < 4294967295) × (f.stamp.0 < last_count)
     plan_asks fit =
-        let q = write_plan_ready fit in (
+        let q = write_plan_ready o h fit in (
           subst (λ (x : Aim). x.slot < 8) (sym aimed) q.0,
           λ e. subst (λ (x : Row). x.filled < data_count p) (sym slot_row_is) (q.1 (ap (λ (x : Aim). x.begins) (sym aimed) ∙ e)),
           q.2,
           subst (λ (x : Front). x.stamp.0 < last_count) (sym same) q.3,
         )
 
-    pub ends_plan : RowsSized m.state → o.cut ≡ false → (c : Change) (fl : List ℕ) → c ≡ planned f al o (planned_row p row m.inflight f al o a b)
+    pub ends_plan : RowsSized m.state → (c : Change) (fl : List ℕ) → c ≡ planned f al o (planned_row p row m.inflight f al o a b)
         → fl ≡ (planned_row p row m.inflight f al o a b).inflight
         → after_change m.state c k'.image k'.pointers m.addresses m.compact fl b ≡ call_disk p off k m (write a b n)
-    ends_plan z t c fl e g =
-        ends_write_done z t c fl (e ∙ (λ j. planned (same j) (aimed j) o (planned_row p (slot_row_is j) m.inflight (same j) (aimed j) o a b)))
+    ends_plan z c fl e g =
+        ends_write_done o h z c fl (e ∙ (λ j. planned (same j) (aimed j) o (planned_row p (slot_row_is j) m.inflight (same j) (aimed j) o a b)))
         (g ∙ (λ j. (planned_row p (slot_row_is j) m.inflight (same j) (aimed j) o a b).inflight))

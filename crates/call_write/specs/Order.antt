@@ -46,18 +46,25 @@ module _ (p : Params) (off : List ℕ) (k : Disk) (m : Memory) (a : ℕ) (b : Li
   unfolding write_checks_in
   write_block_fails e f = sym (rule_fails 2 (not (lent_ok_of p off k m) || not (eqb (length b) p.B)) (rest 1) (λ j. not (e j) || not (ne_eqb (length b) p.B f j)))
 
-  pub write_lengths_pass : lent_ok_of p off k m ≡ true → length b ≡ p.B → write_from 2 ≡ write_from 1
+  write_lengths_pass : lent_ok_of p off k m ≡ true → length b ≡ p.B → write_from 2 ≡ write_from 1
   unfolding write_checks_in
   write_lengths_pass e f = sym (rule_passes 2 (not (lent_ok_of p off k m) || not (eqb (length b) p.B)) (rest 1) (λ j. not (e j) || not (eq-eqb (length b) p.B f j)))
 
-  -- 02, item 4: r is what `list_rule` answers
-  pub write_list_fails : (r : ℕ) → r ≡ list_rule_of p off → (r ≡ 0 → ⊥) → some (Refused r) ≡ write_from 2
+  -- 02, item 4
+  pub write_list_fails : (r : Answer) → some r ≡ list_rule_of p off → some r ≡ write_from 2
   unfolding write_checks_in view_of
-  write_list_fails r e f = sym (list_fails p (seen p off k) (rest 3) r e f)
+  write_list_fails r e = list_fails p (seen p off k) (rest 3) r e
 
-  pub write_list_passes : (r : ℕ) → r ≡ list_rule_of p off → r ≡ 0 → write_from 4 ≡ write_from 2
+  write_list_passes : none ≡ list_rule_of p off → write_from 4 ≡ write_from 2
   unfolding write_checks_in view_of
-  write_list_passes r e f = sym (list_passes p (seen p off k) (rest 3) r e f)
+  write_list_passes e = sym (list_passes p (seen p off k) (rest 3) e)
+
+  -- 1 and 2 pass, and 10 and the narrow 1
+  pub write_lent : in_range p ≡ true → lent_ok_of p off k m ≡ true → length b ≡ p.B → write_from 2 ≡ write_from 0
+  write_lent e f g = write_lengths_pass f g ∙ write_range_passes e
+
+  pub write_listed : in_range p ≡ true → lent_ok_of p off k m ≡ true → length b ≡ p.B → none ≡ list_rule_of p off → write_from 4 ≡ write_from 0
+  write_listed e f g h = write_list_passes h ∙ write_lent e f g
 
   pub write_missing_fails : (m.state.missing ≡ 0 → ⊥) → some (Refused 3) ≡ write_from 4
   unfolding write_checks_in

@@ -16,7 +16,7 @@ ghost use Rattle.call_write.specs.Ready.{write_refusal, planned, planned_row};
 ghost use Rattle.spec.specs.Lists.{is_nil};
 
 use call_filling::{Aim, Opened};
-use mem_calls::Check;
+use mem_calls::Refusal;
 use mem_rows::{Change, Front, Row};
 use spec::{Address, Answer, Params, Stamp, State};
 
@@ -31,7 +31,14 @@ fn reserve(a: Aim) -> usize
 }
 
 // 01, Refusals, 6 to 9, of a write; 02, item 3: full before waiting. The ranges of the state are looked at in its bytes.
-fn room_checks(p: Params, pointers: &[u8], offline: &[u8], bytes: &[u8], f: Front, a: Aim) -> Check
+fn room_checks(
+    p: Params,
+    pointers: &[u8],
+    offline: &[u8],
+    bytes: &[u8],
+    f: Front,
+    a: Aim,
+) -> Result<(), Refusal>
     requires p_value { in_range p ≡ true }
     requires pointers_len { (length pointers.now ≡ pointers_len p) × (length offline.now ≡ offline_len p) }
     requires f_value { (f ≡ front_of (state_of bytes.now)) × (a ≡ aim_of p (state_of bytes.now)) × (length bytes.now ≡ state_len) }
@@ -40,24 +47,24 @@ fn room_checks(p: Params, pointers: &[u8], offline: &[u8], bytes: &[u8], f: Fron
         → checked result ≡ write_from p offline.now (mk_disk im pointers.now) (mk_memory (state_of bytes.now) ad co fl) x b 6 }
 {
     if call_filling::no_stamp(f) {
-        return Check::Fail(Answer::Refused(6));
+        return Err(Refusal::NoCount);
     }
     if call_filling::no_serial(f, a) {
-        return Check::Fail(Answer::Refused(6));
+        return Err(Refusal::NoCount);
     }
     let n = reserve(a);
     let full = call_filling::scarce(p, pointers, offline, n);
     let wait = call_filling::must_wait(p, f, a);
     if full {
-        return Check::Fail(Answer::Refused(8));
+        return Err(Refusal::Full);
     }
     if wait {
-        return Check::Fail(Answer::Refused(7));
+        return Err(Refusal::Wait);
     }
     if !mem_bounds::state_ok(p, bytes) {
-        return Check::Fail(Answer::BadZone(0));
+        return Err(Refusal::BadZone(0));
     }
-    Check::Pass
+    Ok(())
 }
 
 // 01, Refusals: the checks of a write, in order.
@@ -75,7 +82,7 @@ fn checks(
     a: Aim,
     address: Address,
     block: &[u8],
-) -> Check
+) -> Result<(), Refusal>
     requires { (f ≡ front_of (state_of bytes.now)) × (a ≡ aim_of p (state_of bytes.now)) × (missing ≡ (state_of bytes.now).missing) × (length bytes.now ≡ state_len) }
     ensures { checked result
         ≡ write_refusal p offline.now (mk_disk image.now pointers.now)
@@ -83,23 +90,18 @@ fn checks(
         block.now }
 {
     if !disk_shape::in_range(p) {
-        return Check::Fail(Answer::Refused(1));
+        return Err(Refusal::Range);
     }
-    if !mem_calls::lent_ok(p, offline, image, pointers, addresses, compact, inflight) {
-        return Check::Fail(Answer::Refused(2));
-    }
+    mem_calls::lent_ok(p, offline, image, pointers, addresses, compact, inflight)?;
     if block.len() != p.B {
-        return Check::Fail(Answer::Refused(2));
+        return Err(Refusal::Lengths);
     }
-    let rule = mem_calls::list_rule(p, offline);
-    if rule != 0 {
-        return Check::Fail(Answer::Refused(rule));
-    }
+    mem_calls::list_rule(p, offline)?;
     if missing != 0 {
-        return Check::Fail(Answer::Refused(3));
+        return Err(Refusal::Missing);
     }
     if p.L as u64 <= address.0 {
-        return Check::Fail(Answer::Refused(4));
+        return Err(Refusal::Address);
     }
     room_checks(p, pointers, offline, bytes, f, a)
 }
@@ -159,7 +161,7 @@ pub fn write(
 {
     let f = mem_rows::front_of(state);
     let a = call_filling::aim_of(p, f);
-    let c = checks(
+    if let Err(why) = checks(
         p,
         offline,
         image,
@@ -173,14 +175,12 @@ pub fn write(
         a,
         address,
         block,
-    );
-    if let Check::Fail(answer) = c {
-        return mem_rows::kept(answer, f);
+    ) {
+        return mem_rows::kept(Answer::from(why), f);
     }
-    let o = call_filling::open(p, image, pointers, offline, f, a, count);
-    if o.cut {
+    let Ok(o) = call_filling::open(p, image, pointers, offline, f, a, count) else {
         return call_filling::cut(addresses, compact, f);
-    }
+    };
     let row = mem_codec::row_at(bytes, a.slot);
     plan(p, inflight, row, f, a, o, address, block)
 }

@@ -36,10 +36,8 @@ fn fold_numbers(numbers: &[u64], out: u8, n: usize) -> u64
     ensures { result ≡ xor_all (map (λ k. get_or numbers.now k 0) (kept out n)) }
 {
     let mut sum = 0;
-    let mut k = 0;
-    while k < n {
+    for k in 0..n {
         sum = add_number(numbers, out, k, sum);
-        k += 1;
     }
     sum
 }
@@ -66,10 +64,8 @@ fn fold_parts(src: &[u8], at: &[usize], out: u8, n: usize, b: usize, block: &mut
     ensures { block.new ≡ parity b (parts_of src.now at.now b (kept out n)) }
 {
     disk_blocks::clear(block);
-    let mut k = 0;
-    while k < n {
+    for k in 0..n {
         add_part(src, at, out, k, block);
-        k += 1;
     }
 }
 
@@ -157,11 +153,9 @@ fn add_data(p: Params, inflight: &mut [u8], slot: usize, stripe: usize)
     let n = disk_shape::data_count(p);
     let b = p.B;
     let at = disk_shape::slot_byte(p, slot, disk_shape::parity_drive(p, stripe));
-    let mut k = 1;
-    while k < n {
+    for k in 1..n {
         let next = data_byte(p, slot, stripe, k);
         disk_blocks::xor_within(inflight, at, next, b);
-        k += 1;
     }
 }
 

@@ -7,11 +7,11 @@ ghost use Rattle.spec.specs.Layout.{footer_block};
 ghost use Rattle.spec.specs.Lists.{up_from};
 ghost use Rattle.spec.specs.Params.{in_range, per_footer, footers, capacity, image_len, pointers_len};
 ghost use Rattle.law_views.specs.Views.{Whole};
-ghost use Rattle.disk_zones.specs.Made.{made_of, Storing};
+ghost use Rattle.disk_zones.specs.Made.{Storing};
 ghost use Rattle.disk_footers.specs.Feet.{spares_by};
 ghost use Rattle.disk_footers.specs.Laid.{laid, zero_spares};
 
-use disk_zones::Made;
+use disk_zones::TooFew;
 use spec::Params;
 
 // How many records footer block i holds.
@@ -22,10 +22,7 @@ fn records_of(p: Params, i: usize) -> usize
 {
     let per = disk_shape::per_footer(p);
     let rest = p.S - i * per;
-    if rest < per {
-        return rest;
-    }
-    per
+    per.min(rest)
 }
 
 // 01, What a zone holds: footer block i, made from the zone's spares.
@@ -40,12 +37,10 @@ pub fn make_footer(p: Params, image: &[u8], drive: usize, zone: usize, i: usize,
     let n = records_of(p, i);
     let per = disk_shape::per_footer(p);
     let mut at = disk_stored::spare_byte(p, drive, zone, 1 + i * per);
-    let mut j = 0;
-    while j < n {
+    for j in 0..n {
         let end = at + disk_shape::SPARE;
         disk_blocks::copy_part(block, disk_shape::SPARE * j, &image[at..end]);
         at += p.B + disk_shape::SPARE;
-        j += 1;
     }
 }
 
@@ -65,12 +60,10 @@ fn write_with(
     requires image_len { (length image.old ≡ image_len p) × (length block.old ≡ p.B) × (drive < p.N) × (zone < p.Z) × (first + n ≤ footers p) × (at + n ≤ capacity p) }
     ensures { image.new ≡ laid p drive zone 0 at (map (footer_block p (spares_by p image.old drive zone)) (up_from first n)) image.old }
 {
-    let mut i = 0;
-    while i < n {
+    for i in 0..n {
         make_footer(p, image, drive, zone, first + i, block);
         let byte = disk_shape::block_byte(p, drive, zone, at + i);
         disk_blocks::copy_part(image, byte, block);
-        i += 1;
     }
 }
 
@@ -99,11 +92,9 @@ fn clear_spares(p: Params, image: &mut [u8], drive: usize, zone: usize, at: usiz
     requires image_len { (length image.old ≡ image_len p) × (drive < p.N) × (zone < p.Z) × (at + n ≤ capacity p) }
     ensures { image.new ≡ laid p drive zone p.B at (zero_spares n) image.old }
 {
-    let mut i = 0;
-    while i < n {
+    for i in 0..n {
         let byte = disk_stored::spare_byte(p, drive, zone, at + i);
         disk_blocks::clear_part(image, byte, disk_shape::SPARE);
-        i += 1;
     }
 }
 
@@ -132,29 +123,6 @@ fn store_footers(
     bits_be::write_be32(pointers, byte, (at + n) as u32);
 }
 
-// How many of n stores the count allows.
-fn allowed(n: usize, count: u64) -> usize
-    ensures { result ≡ min count n }
-{
-    if count < n as u64 {
-        return count as usize;
-    }
-    n
-}
-
-// 01, Store count: what n stores leave of the count.
-fn made(n: usize, count: u64) -> Made
-    ensures { result ≡ made_of count n }
-{
-    if count < n as u64 {
-        return Made { left: 0, cut: true };
-    }
-    Made {
-        left: count - n as u64,
-        cut: false,
-    }
-}
-
 // 01, Store count: footer blocks first, first + 1, .., n of them, stored under a count; all are made from the zone as it came, also where the
 // pointer is not behind the data.
 pub fn footer_stores(
@@ -166,7 +134,7 @@ pub fn footer_stores(
     first: usize,
     n: usize,
     count: u64,
-) -> Made
+) -> Result<u64, TooFew>
     requires p_value { in_range p ≡ true }
     requires whole { Whole p (mk_disk image.old pointers.old) }
     requires drive_lt_n { (drive < p.N) × (zone < p.Z) × (first + n ≤ footers p) × (pointer_of p pointers.old drive zone + n ≤ capacity p) }
@@ -174,10 +142,11 @@ pub fn footer_stores(
         → Storing p count (footer_stores p drive zone (zone_at (view_of p off image.old pointers.old) drive zone) first n)
         (mk_disk image.old pointers.old) result (mk_disk image.new pointers.new) }
 {
-    let m = allowed(n, count);
+    let left = count.checked_sub(n as u64).ok_or(TooFew);
+    let m = count.min(n as u64) as usize;
     if m == 0 {
-        return made(n, count);
+        return left;
     }
     store_footers(p, image, pointers, drive, zone, first, m);
-    made(n, count)
+    left
 }

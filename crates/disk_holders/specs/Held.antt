@@ -1,5 +1,5 @@
 -- The one remaining segment with a zone of a drive, and with a place there (02, item 4). Assumes nothing.
-use Rattle.std.specs.Prelude.{◌≡◌, not, ◌&&◌, ℕ, suc, ◌+◌, ◌-◌, ◌≤◌, ◌<◌, length}
+use Rattle.std.specs.Prelude.{◌≡◌, not, ◌&&◌, ℕ, suc, ◌+◌, ◌-◌, ◌≤◌, ◌<◌, length, Option, is_some, IfSome}
 use Rattle.std.proofs.Math.Path.{refl, sym, ap, ap₂}
 use Rattle.std.proofs.Common.{◌∙◌, subst, inl, arith}
 use mathlib.Core.List.{List, [], ◌∷◌, map}
@@ -8,6 +8,7 @@ use borrow.Author.Tests.{eq-eqb, ne_eqb, lt-ltb, le-ltb}
 use Rattle.std.proofs.Math.Dec.{eqb}
 use Rattle.spec.specs.declared.Params.{Params}
 use Rattle.spec.specs.declared.Seg.{Seg}
+use Rattle.spec.specs.declared.Serial.{Serial}
 use Rattle.spec.specs.Drives.{View, chunk_at, pointer_at, is_good, zone_on, no_seg}
 use Rattle.spec.specs.Layout.{header_serial, header_zone}
 use Rattle.spec.specs.Lists.{up_from, below, keep, first_or, is_in}
@@ -25,8 +26,6 @@ use Rattle.law_drives.specs.Settled.{zero_here}
 use Rattle.law_drives.specs.Tables.{seg_at, remains_at, remaining_is, one_holder}
 use Rattle.law_drives.specs.Tests.{clash, and_false_left, and_false_right}
 use Rattle.disk_gather.specs.Found.{lead_lowest}
-use Rattle.disk_holders.specs.declared.Held.{Held}
-use Rattle.disk_holders.specs.declared.Held.TheVariants.{Nothing, One}
 use Rattle.disk_holders.specs.Borne.{serial_remains, all_borne_on, remains_borne, remains_in, in_remains, remains_by_zone}
 use Rattle.disk_holders.specs.Next.{next_one, next_none, next_split}
 
@@ -42,20 +41,14 @@ names_zone p v gone d z y =
 
 -- ---- what an answer says
 
--- there is one
-unfoldable pub is_one_of : Held → Bool
-is_one_of Nothing = false
-is_one_of (One s) = true
-
 -- the segment of serial r remains, and it alone has the zone
 pub record HeldOne (p : Params) (v : View) (gone d z r : ℕ) : Type 0 where
   pub alone : holders p v gone d z ≡ seg_for p v gone r ∷ []
   pub it_remains : serial_remains p v gone r ≡ true
 
--- by its serial
-unfoldable pub HeldAs : Params → View → ℕ → ℕ → ℕ → Held → Type 0
-HeldAs p v gone d z Nothing = Unit {0}
-HeldAs p v gone d z (One s) = HeldOne p v gone d z s.0
+-- by its serial, if there is one
+abbrev pub HeldAs : Params → View → ℕ → ℕ → ℕ → Option Serial → Type 0
+HeldAs p v gone d z h = IfSome h (λ s. HeldOne p v gone d z s.0)
 
 -- ---- a zone of a present drive
 
@@ -243,9 +236,9 @@ unfolding is_place
 place_outside p v gone q h =
     ap (λ (b : Bool). (b && is_good p v.offline (place_drive p q) (place_zone p q)) && eqb (length (holders p v gone (place_drive p q) (place_zone p q))) 1) (le-ltb (place_drive p q) p.N h)
 
-pub answer_at : (p : Params) (v : View) (gone q d z : ℕ) (h : Held) → d ≡ place_drive p q → z ≡ place_zone p q → d < p.N
-    → (is_good p v.offline d z && eqb (length (holders p v gone d z)) 1) ≡ is_one_of h → HeldAs p v gone d z h
-    → (is_place p v gone q ≡ is_one_of h) × HeldAs p v gone (place_drive p q) (place_zone p q) h
+pub answer_at : (p : Params) (v : View) (gone q d z : ℕ) (h : Option Serial) → d ≡ place_drive p q → z ≡ place_zone p q → d < p.N
+    → (is_good p v.offline d z && eqb (length (holders p v gone d z)) 1) ≡ is_some h → HeldAs p v gone d z h
+    → (is_place p v gone q ≡ is_some h) × HeldAs p v gone (place_drive p q) (place_zone p q) h
 answer_at p v gone q d z h ed ez l e a = (
   place_by p v gone q (subst (λ (n : ℕ). n < p.N) ed l) ∙ sym (λ j. is_good p v.offline (ed j) (ez j) && eqb (length (holders p v gone (ed j) (ez j))) 1) ∙ e,
   subst (λ (n : ℕ). HeldAs p v gone n (place_zone p q) h) ed (subst (λ (n : ℕ). HeldAs p v gone d n h) ez a),

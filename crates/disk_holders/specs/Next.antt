@@ -1,5 +1,5 @@
 -- The first number of a range that passes a test, and the next one (02, item 4). Assumes nothing.
-use Rattle.std.specs.Prelude.{◌≡◌, refl, List, [], ◌∷◌, Bool, true, false, ℕ, zero, suc, ◌+◌, ◌-◌, ◌≤◌, ◌<◌}
+use Rattle.std.specs.Prelude.{◌≡◌, refl, List, [], ◌∷◌, Bool, true, false, ℕ, zero, suc, ◌+◌, ◌-◌, ◌≤◌, ◌<◌, Option, Some, None, is_some, unwrap_or, IfSome}
 use Rattle.std.proofs.Common.{sym, ap₂, ◌∙◌, subst, arith}
 use Rattle.std.proofs.Math.Path.{ap}
 use Rattle.spec.specs.Lists.{up_from, keep, cons_if, first_or}
@@ -10,6 +10,15 @@ use Rattle.disk_gather.specs.Found.{lowest_turn, lowest_pass, lowest_end}
 -- the lowest number from i on, below n, that passes; n where none does
 unfoldable pub next_one : (ℕ → Bool) → ℕ → ℕ → ℕ
 next_one f n i = first_or n (keep f (up_from i (n - i)))
+
+-- one that is found lies below n, and where none is n stands for it
+pub some_low : (o : Option ℕ) (n : ℕ) → is_some o ≡ true → IfSome o (λ y. y < n) → unwrap_or o n < n
+some_low None n e l = absurd (let q : ◌≡◌ {A = ℕ} 0 1 = cc in let w : ⊥ = omega arith in w)
+some_low (Some y) n e l = l
+
+pub none_high : (o : Option ℕ) (n : ℕ) → is_some o ≡ false → n ≤ unwrap_or o n
+none_high None n e = omega arith
+none_high (Some y) n e = absurd (let q : ◌≡◌ {A = ℕ} 0 1 = cc in let w : ⊥ = omega arith in w)
 
 -- one turn of a search, and its end
 module _ (f : ℕ → Bool) (n i : ℕ) where

@@ -1,5 +1,5 @@
 // Which record of an address holds (01, The calls, last paragraph).
-#![tactic(auto)]
+#![tactic(auto, unfolding(spec::specs::Rank::beats, spec::specs::Rank::better, spec::specs::Rank::place_or))]
 
 ghost use Rattle.std.specs.Prelude.{◌≡◌};
 ghost use Rattle.spec.specs.Rank.{beats, better, place_or};
@@ -18,50 +18,33 @@ pub struct Cand {
     pub place: Place,
 }
 
-// The record that holds so far, or none.
-#[derive(Clone, Copy)]
-pub enum Best {
-    Nothing,
-    Holds(Cand),
-}
-
 // 01, The calls: greater stamp, then greater serial, then lower drive, then lower offset.
 pub fn beats(a: Cand, b: Cand) -> bool
     ensures { result ≡ beats (ranked a) (ranked b) }
 {
-    if a.stamp.0 != b.stamp.0 {
-        return b.stamp.0 < a.stamp.0;
-    }
-    if a.serial.0 != b.serial.0 {
-        return b.serial.0 < a.serial.0;
-    }
-    if a.drive != b.drive {
-        return a.drive < b.drive;
-    }
-    a.offset < b.offset
+    b.stamp.0 < a.stamp.0
+        || (a.stamp.0 == b.stamp.0
+            && (b.serial.0 < a.serial.0
+                || (a.serial.0 == b.serial.0
+                    && (a.drive < b.drive || (a.drive == b.drive && a.offset < b.offset)))))
 }
 
-// The better of what holds so far and one more.
-pub fn better(b: Best, c: Cand) -> Best
+// The better of what holds so far, if anything does, and one more.
+pub fn better(b: Option<Cand>, c: Cand) -> Option<Cand>
     ensures { ranked_best result ≡ better (ranked_best b) (ranked c) }
 {
     match b {
-        Best::Nothing => Best::Holds(c),
-        Best::Holds(h) => {
-            if beats(c, h) {
-                return Best::Holds(c);
-            }
-            Best::Holds(h)
-        }
+        Some(h) if !beats(c, h) => b,
+        _ => Some(c),
     }
 }
 
 // 01, The array: its place, or never written.
-pub fn place_or(b: Best) -> Place
+pub fn place_or(b: Option<Cand>) -> Place
     ensures { result.0 ≡ place_or (ranked_best b) }
 {
     match b {
-        Best::Nothing => Place::NEVER,
-        Best::Holds(h) => h.place,
+        Some(h) => h.place,
+        None => Place::NEVER,
     }
 }

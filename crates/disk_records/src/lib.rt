@@ -45,11 +45,9 @@ fn write_fields(dst: &mut [u8], from: usize, widths: &[usize], values: &[u64])
     ensures { dst.new ≡ splice dst.old from (bytes_of (zipped field widths.now values.now)) }
 {
     let mut at = from;
-    let mut i = 0;
-    while i < widths.len() {
+    for i in 0..widths.len() {
         bits_be::write_be(dst, at, widths[i], values[i]);
         at += widths[i];
-        i += 1;
     }
 }
 
@@ -59,10 +57,8 @@ fn write_zones(dst: &mut [u8], p: Params, segment: Seg)
     ensures { dst.new ≡ splice dst.old 13 (bytes_of (map (field 4) (zones_in p segment))) }
 {
     let zones = segment.zones;
-    let mut d = 0;
-    while d < p.N {
+    for d in 0..p.N {
         bits_be::write_be32(dst, ZONES_AT + 4 * d, zones[d]);
-        d += 1;
     }
 }
 
@@ -112,8 +108,8 @@ fn matches_header(
     disk_blocks::same(src, &scratch[..n])
 }
 
-// The same for small blocks: the room that is cleared is small too.
-fn is_small_header(
+// The same with room of its own, which is cleared: no more than the blocks ask for.
+fn is_header_within<const ROOM: usize>(
     src: &[u8],
     p: Params,
     drive: usize,
@@ -121,26 +117,10 @@ fn is_small_header(
     serial: Serial,
     copied: Serial,
 ) -> bool
-    requires { (in_range p ≡ true) × (length src.now ≡ unit_len p) × (p.B ≤ 256) × (drive < p.N) }
+    requires { (in_range p ≡ true) × (length src.now ≡ unit_len p) × (unit_len p ≤ ROOM) × (ROOM ≤ 4116) × (drive < p.N) }
     ensures { result ≡ same_chunk (chunk_of p src.now) (header_block p drive (zones_in p segment) serial.0 copied.0) zero_spare }
 {
-    let mut scratch = [0u8; SMALL];
-    matches_header(src, &mut scratch, p, drive, segment, serial, copied)
-}
-
-// The same for blocks of any length.
-fn is_long_header(
-    src: &[u8],
-    p: Params,
-    drive: usize,
-    segment: Seg,
-    serial: Serial,
-    copied: Serial,
-) -> bool
-    requires { (in_range p ≡ true) × (length src.now ≡ unit_len p) × (drive < p.N) }
-    ensures { result ≡ same_chunk (chunk_of p src.now) (header_block p drive (zones_in p segment) serial.0 copied.0) zero_spare }
-{
-    let mut scratch = [0u8; disk_shape::UNIT];
+    let mut scratch = [0u8; ROOM];
     matches_header(src, &mut scratch, p, drive, segment, serial, copied)
 }
 
@@ -157,9 +137,9 @@ pub fn is_header(
     ensures { result ≡ same_chunk (chunk_of p src.now) (header_block p drive (zones_in p segment) serial.0 copied.0) zero_spare }
 {
     if p.B <= 256 {
-        return is_small_header(src, p, drive, segment, serial, copied);
+        return is_header_within::<SMALL>(src, p, drive, segment, serial, copied);
     }
-    is_long_header(src, p, drive, segment, serial, copied)
+    is_header_within::<{ disk_shape::UNIT }>(src, p, drive, segment, serial, copied)
 }
 
 // The serials of a header block.

@@ -23,65 +23,35 @@ pub const SPARE: usize = STRIPE_AT + 4;
 // The longest block with its spare.
 pub const UNIT: usize = 4096 + SPARE;
 
-// From lo to hi.
+// From lo to hi. `&` has no branch, so the proof has one path.
+#[tactic(auto, unfolding(spec::specs::Params::between))]
 fn is_between(lo: usize, hi: usize, n: usize) -> bool
     ensures { result ≡ between lo hi n }
 {
-    if n < lo {
-        return false;
-    }
-    if hi < n {
-        return false;
-    }
-    true
+    (lo <= n) & (n <= hi)
 }
 
 // A power of two from 128 to 4,096.
+#[tactic(auto, unfolding(spec::specs::Lists::is_member_of, spec::specs::Lists::any, spec::specs::Params::block_sizes))]
 fn is_block_size(b: usize) -> bool
     ensures { result ≡ is_member_of b block_sizes }
 {
-    if b == 128 {
-        return true;
-    }
-    if b == 256 {
-        return true;
-    }
-    if b == 512 {
-        return true;
-    }
-    if b == 1024 {
-        return true;
-    }
-    if b == 2048 {
-        return true;
-    }
-    if b == 4096 {
-        return true;
-    }
-    false
+    matches!(b, 128 | 256 | 512 | 1024 | 2048 | 4096)
 }
 
 // 01, The array: the ranges (refusal 1), of any numbers.
 pub fn in_range(p: Params) -> bool
     ensures { result ≡ in_range p }
 {
-    if !is_between(3, 8, p.N) {
+    let shaped = is_between(3, 8, p.N)
+        & is_block_size(p.B)
+        & is_between(4, 1024, p.Z)
+        & is_between(1, 65535, p.S)
+        & is_between(1, 256, p.G);
+    if !shaped {
         return false;
     }
-    if !is_block_size(p.B) {
-        return false;
-    }
-    if !is_between(4, 1024, p.Z) {
-        return false;
-    }
-    if !is_between(1, 65535, p.S) {
-        return false;
-    }
-    if !is_between(1, 256, p.G) {
-        return false;
-    }
-    let n = p.N - parity_count(p);
-    is_between(1, (p.Z - 3) * p.S * n, p.L)
+    is_between(1, (p.Z - 3) * p.S * (p.N - parity_count(p)), p.L)
 }
 
 // Parities of a stripe; today one (02, item 5).
@@ -105,10 +75,7 @@ pub fn most_with(p: Params, zones: usize) -> usize
     requires zones_le_z { zones ≤ p.Z }
     ensures { (result ≡ most_with p zones) × (result ≤ 468378645) }
 {
-    if zones < 3 {
-        return 0;
-    }
-    (zones - 3) * p.S * data_count(p)
+    zones.saturating_sub(3) * p.S * data_count(p)
 }
 
 // Records of a footer block.
@@ -268,10 +235,7 @@ pub fn data_position(p: Params, stripe: usize, drive: usize) -> usize
     if drive < parity_drive(p, stripe) {
         return drive;
     }
-    if drive == 0 {
-        return 0;
-    }
-    drive - 1
+    drive.saturating_sub(1)
 }
 
 // Whether the drive has data of the stripe.

@@ -1,5 +1,5 @@
 -- Stores under a number: what a function that stores leaves, and how two of them join (01, Store count). Assumes nothing.
-use Rattle.std.specs.Prelude.{◌≡◌, refl, Bool, true, false, ℕ, suc, ◌+◌, ◌-◌, ◌≤◌, ◌<◌, take}
+use Rattle.std.specs.Prelude.{◌≡◌, refl, Bool, true, false, cond, Option, Some, None, Result, Ok, Err, ℕ, suc, ◌+◌, ◌-◌, ◌≤◌, ◌<◌, take}
 use Rattle.std.proofs.Math.Path.{sym, ap, ap₂}
 use Rattle.std.proofs.Common.{◌∙◌, add-zero}
 use mathlib.Core.List.{map, List, [], ◌∷◌, ◌++◌}
@@ -10,6 +10,8 @@ use Rattle.std.proofs.lemmas.List.{length-map}
 use Rattle.std.proofs.Math.Dec.{ltb}
 use Rattle.std.proofs.Math.Nat.{sub-zero}
 use borrow.Author.Tests.{ltb-true, ltb-false, lt-ltb, le-ltb}
+use Rattle.std.specs.Option.{SomeIff, ok_or}
+use Rattle.std.specs.Result.{IsErr, is_err}
 use Rattle.spec.specs.Bytes.{splice}
 use Rattle.spec.specs.Drives.{Store, Disk, mk_disk, pointer_of, set_pointer, store_disk, store_all, zone_on, zero_spare, zones_in}
 use Rattle.spec.specs.Drives.Store.{put, reset}
@@ -21,91 +23,139 @@ use Rattle.law_basic.specs.Fields.{length-zero_spare, header_block_long}
 use Rattle.law_basic.specs.Geometry.{Ranged}
 use Rattle.law_basic.specs.Ranges.{up_from_step, up_from_end, below-start, length-below}
 use Rattle.law_basic.specs.Stores.{stores_append, stores_cons, stores_zero, stores_nil, stores_all}
-use Rattle.disk_zones.specs.declared.Made.{Made}
+use Rattle.disk_zones.specs.declared.TooFew.{TooFew}
 use Rattle.spec.specs.declared.Seg.{Seg}
 
--- of k stores due under the number n: what is left of it, and whether it was too small
-unfoldable pub made_of : ℕ → ℕ → Made
-made_of n k = record { left = n - k; cut = ltb n k }
+-- the answer where the number is too small
+abbrev pub too_few : Result ℕ TooFew
+too_few = Err (record {})
+
+-- of k stores due under the number n: what is left of it, or that it is too small
+unfoldable pub made_of : ℕ → ℕ → Result ℕ TooFew
+made_of n k = cond (ltb n k) too_few (Ok (n - k))
+
+made_enough : (n k : ℕ) → k ≤ n → made_of n k ≡ Ok (n - k)
+unfolding made_of
+made_enough n k h = ap (λ (b : Bool). cond b too_few (Ok (n - k))) (le-ltb n k h)
+
+made_short : (n k : ℕ) → n < k → made_of n k ≡ too_few
+unfolding made_of
+made_short n k h = ap (λ (b : Bool). cond b too_few (Ok (n - k))) (lt-ltb n k h)
+
+-- the same by a checked difference
+pub made_taken : (o : Option ℕ) (n k : ℕ) → SomeIff o (k ≤ n) (n - k) → ok_or o (record {}) ≡ made_of n k
+made_taken (Some x) n k h = ap (λ (y : ℕ). Ok y) h.1 ∙ sym (made_enough n k h.0)
+made_taken None n k h = sym (made_short n k (omega arith))
+
+-- what an answer says of the number
+enough_is : (n k left : ℕ) → Ok left ≡ made_of n k → (k ≤ n) × (left ≡ n - k)
+enough_is n k left h = go (dec_lt n k)
+  where
+    go : Dec (n < k) → (k ≤ n) × (left ≡ n - k)
+    go (yes w) = absurd (let q : ⊥ = grind (arith, h, made_short n k w) in q)
+    go (no w) = let l : k ≤ n = omega arith in (l, (let q : left ≡ n - k = grind (arith, h, made_enough n k l) in q))
+
+short_is : (n k : ℕ) → too_few ≡ made_of n k → n < k
+short_is n k h = go (dec_lt n k)
+  where
+    go : Dec (n < k) → n < k
+    go (yes w) = w
+    go (no w) = absurd (let q : ⊥ = grind (arith, h, made_enough n k (omega arith)) in q)
 
 -- the first n of the stores ss are made on the bytes k, which are then k'; r says so
-pub record Storing (p : Params) (n : ℕ) (ss : List Store) (k : Disk) (r : Made) (k' : Disk) : Type 0 where
+pub record Storing (p : Params) (n : ℕ) (ss : List Store) (k : Disk) (r : Result ℕ TooFew) (k' : Disk) : Type 0 where
   pub made : r ≡ made_of n (length ss)
   pub disk : k' ≡ store_all (store_disk p) (take n ss) k
 
-module _ (p : Params) (n : ℕ) (ss : List Store) (k : Disk) (r : Made) (k' : Disk) (h : Storing p n ss k r k') where
-  pub storing_left : r.left ≡ n - length ss
+-- uncut: the number covers all, and all are made
+module _ (p : Params) (n : ℕ) (ss : List Store) (k : Disk) (left : ℕ) (k' : Disk) (h : Storing p n ss k (Ok left) k') where
+  pub storing_left : left ≡ n - length ss
+  storing_left = (enough_is n (length ss) left h.made).1
+
+  pub storing_done : length ss ≤ n
+  storing_done = (enough_is n (length ss) left h.made).0
+
+  pub storing_all : k' ≡ store_all (store_disk p) ss k
+  storing_all = h.disk ∙ stores_all (store_disk p) n ss k storing_done
+
+  -- the first part of a call's stores
+  pub storing_join : (ts : List Store) (r' : Result ℕ TooFew) (k'' : Disk) → Storing p left ts k' r' k'' → Storing p n (ss ++ ts) k r' k''
   unfolding made_of
-  storing_left = ap (λ (x : Made). x.left) h.made
-
-  cut_is : r.cut ≡ ltb n (length ss)
-  unfolding made_of
-  cut_is = ap (λ (x : Made). x.cut) h.made
-
-  -- cut just if more are due than the number
-  pub storing_cut : r.cut ≡ true → n < length ss
-  storing_cut e = ltb-true n (length ss) (sym cut_is ∙ e)
-
-  pub storing_done : r.cut ≡ false → length ss ≤ n
-  storing_done e = ltb-false n (length ss) (sym cut_is ∙ e)
-
-  -- uncut, all are made
-  pub storing_all : r.cut ≡ false → k' ≡ store_all (store_disk p) ss k
-  storing_all e = h.disk ∙ stores_all (store_disk p) n ss k (storing_done e)
-
-  -- a call's stores in two parts: where the first is cut, and where it isn't
-  pub storing_stop : (ts : List Store) → r.cut ≡ true → Storing p n (ss ++ ts) k r k'
-  unfolding made_of
-  storing_stop ts e =
-      let l : n < length ss = storing_cut e in
+  storing_join ts r' k'' g =
       let m : length (ss ++ ts) ≡ length ss + length ts = length-append ss ts in
-      let a : n - length ss ≡ n - length (ss ++ ts) = omega arith in
-      let b : ltb n (length ss) ≡ ltb n (length (ss ++ ts)) = lt-ltb n (length ss) l ∙ sym (lt-ltb n (length (ss ++ ts)) (omega arith)) in
+      let q = storing_left in
+      let l = storing_done in
+      let a : left - length ts ≡ n - length (ss ++ ts) = omega arith in
+      let b : ltb left (length ts) ≡ ltb n (length (ss ++ ts)) = same_test (dec_lt left (length ts)) in
+      record {
+        made = g.made ∙ ap₂ (λ (x : ℕ) (y : Bool). cond y too_few (Ok x)) a b;
+        disk = g.disk ∙ ap₂ (λ (x : ℕ) (y : Disk). store_all (store_disk p) (take x ts) y) q h.disk ∙ sym (stores_append (store_disk p) n ss ts k);
+      }
+    where
+      same_test : Dec (left < length ts) → ltb left (length ts) ≡ ltb n (length (ss ++ ts))
+      same_test (yes w) =
+          lt-ltb left (length ts) w ∙ sym (lt-ltb n (length (ss ++ ts)) (omega (arith, length-append ss ts, storing_left, storing_done)))
+      same_test (no w) =
+          le-ltb left (length ts) (omega arith) ∙ sym (le-ltb n (length (ss ++ ts)) (omega (arith, length-append ss ts, storing_left, storing_done)))
+
+-- cut: more are due than the number
+module _ (p : Params) (n : ℕ) (ss : List Store) (k k' : Disk) (h : Storing p n ss k too_few k') where
+  pub storing_cut : n < length ss
+  storing_cut = short_is n (length ss) h.made
+
+  -- and so of a call's stores that go on
+  pub storing_stop : (ts : List Store) → Storing p n (ss ++ ts) k too_few k'
+  storing_stop ts =
+      let l = storing_cut in
+      let m : length (ss ++ ts) ≡ length ss + length ts = length-append ss ts in
       let t : n - length ss ≡ 0 = omega arith in
       record {
-        made = h.made ∙ ap₂ (λ (x : ℕ) (y : Bool). record { left = x; cut = y }) a b;
+        made = sym (made_short n (length (ss ++ ts)) (omega arith));
         disk = h.disk ∙ sym (stores_append (store_disk p) n ss ts k ∙ ap (λ (x : ℕ). store_all (store_disk p) (take x ts) (store_all (store_disk p) (take n ss) k)) t
             ∙ stores_zero (store_disk p) ts (store_all (store_disk p) (take n ss) k));
       }
 
-  pub storing_join : (ts : List Store) (r' : Made) (k'' : Disk) → r.cut ≡ false → Storing p r.left ts k' r' k'' → Storing p n (ss ++ ts) k r' k''
+-- by a test of the answer
+module _ (p : Params) (n : ℕ) (ss : List Store) (k : Disk) (r : Result ℕ TooFew) (k' : Disk) (h : Storing p n ss k r k') where
+  pub storing_tells : is_err r ≡ ltb n (length ss)
   unfolding made_of
-  storing_join ts r' k'' e g =
-      let l : length ss ≤ n = storing_done e in
-      let m : length (ss ++ ts) ≡ length ss + length ts = length-append ss ts in
-      let q = storing_left in
-      let a : r.left - length ts ≡ n - length (ss ++ ts) = omega arith in
-      let b : ltb r.left (length ts) ≡ ltb n (length (ss ++ ts)) = same_test (dec_lt r.left (length ts)) in
-      record {
-        made = g.made ∙ ap₂ (λ (x : ℕ) (y : Bool). record { left = x; cut = y }) a b;
-        disk = g.disk ∙ ap₂ (λ (x : ℕ) (y : Disk). store_all (store_disk p) (take x ts) y) q h.disk ∙ sym (stores_append (store_disk p) n ss ts k);
-      }
+  storing_tells = ap is_err h.made ∙ go (ltb n (length ss))
     where
-      same_test : Dec (r.left < length ts) → ltb r.left (length ts) ≡ ltb n (length (ss ++ ts))
-      same_test (yes w) =
-          lt-ltb r.left (length ts) w ∙ sym (lt-ltb n (length (ss ++ ts)) (omega (arith, length-append ss ts, storing_left, storing_done e)))
-      same_test (no w) =
-          le-ltb r.left (length ts) (omega arith) ∙ sym (le-ltb n (length (ss ++ ts)) (omega (arith, length-append ss ts, storing_left, storing_done e)))
+      go : (b : Bool) → is_err (cond b too_few (Ok (n - length ss))) ≡ b
+      go true = refl
+      go false = refl
 
-pub storing_none : (p : Params) (n : ℕ) (k : Disk) → Storing p n [] k (record { left = n; cut = false }) k
-unfolding made_of
-storing_none p n k =
-    let a : n ≡ n - 0 = sym (sub-zero n) in
-    record {
-      made = ap₂ (λ (x : ℕ) (y : Bool). record { left = x; cut = y }) a (sym (le-ltb n 0 (omega arith)));
-      disk = sym (stores_nil (store_disk p) n k);
-    }
+  pub storing_short : is_err r ≡ true → n < length ss
+  storing_short e = ltb-true n (length ss) (sym storing_tells ∙ e)
+
+  pub storing_enough : is_err r ≡ false → length ss ≤ n
+  storing_enough e = ltb-false n (length ss) (sym storing_tells ∙ e)
+
+  pub storing_made : is_err r ≡ false → k' ≡ store_all (store_disk p) ss k
+  storing_made e = h.disk ∙ stores_all (store_disk p) n ss k (storing_enough e)
+
+-- at the exit of a `?`
+pub only_cut : {T : Type 0} (r : Result T TooFew) → IsErr r → r ≡ Err (record {})
+only_cut (Err e) h = refl
+only_cut (Ok x) h = absurd (let q : ⊥ = grind (arith, h) in q)
+
+pub storing_exit : {p : Params} {n : ℕ} {ss : List Store} {k k' : Disk} (r : Result ℕ TooFew) → IsErr r → Storing p n ss k too_few k' → Storing p n ss k r k'
+storing_exit r h s = rw (only_cut r h) s
+
+pub storing_none : (p : Params) (n : ℕ) (k : Disk) → Storing p n [] k (Ok n) k
+storing_none p n k = record {
+  made = ap (λ (x : ℕ). Ok x) (sym (sub-zero n)) ∙ sym (made_enough n 0 (omega arith));
+  disk = sym (stores_nil (store_disk p) n k);
+}
 
 -- ---- one store
 
-pub storing_one-cut : (p : Params) (s : Store) (k : Disk) → Storing p 0 (s ∷ []) k (record { left = 0; cut = true }) k
-unfolding made_of
-storing_one-cut p s k = record { made = refl; disk = sym (stores_zero (store_disk p) (s ∷ []) k) }
+pub storing_one-cut : (p : Params) (s : Store) (k : Disk) → Storing p 0 (s ∷ []) k too_few k
+storing_one-cut p s k = record { made = sym (made_short 0 1 (omega arith)); disk = sym (stores_zero (store_disk p) (s ∷ []) k) }
 
-pub storing_one : (p : Params) (n : ℕ) (s : Store) (k k' : Disk) → 0 < n → k' ≡ store_disk p s k → Storing p n (s ∷ []) k (record { left = n - 1; cut = false }) k'
-unfolding made_of
+pub storing_one : (p : Params) (n : ℕ) (s : Store) (k k' : Disk) → 0 < n → k' ≡ store_disk p s k → Storing p n (s ∷ []) k (Ok (n - 1)) k'
 storing_one p n s k k' h e = record {
-  made = ap (λ (y : Bool). record { left = n - 1; cut = y }) (sym (le-ltb n 1 (omega arith)));
+  made = sym (made_enough n 1 (omega arith));
   disk = e ∙ sym (stores_cons (store_disk p) n s [] k h ∙ stores_nil (store_disk p) (n - 1) (store_disk p s k));
 }
 
@@ -138,23 +188,19 @@ module _ (p : Params) (f : ℕ → Store) (m number : ℕ) (k₀ : Disk) where
   due_long : length (map f (below m)) ≡ m
   due_long = length-map (below m) f ∙ length-below m
 
-  pub rest_cut : (i left : ℕ) (k : Disk) → StoresLeft i left k → i < m → left ≡ 0 → Storing p number (map f (below m)) k₀ (record { left = 0; cut = true }) k
-  unfolding made_of
+  pub rest_cut : (i left : ℕ) (k : Disk) → StoresLeft i left k → i < m → left ≡ 0 → Storing p number (map f (below m)) k₀ too_few k
   rest_cut i left k r h e =
-      let n : number < length (map f (below m)) = omega (arith, due_long, r.sum) in
-      let a : 0 ≡ number - length (map f (below m)) = omega arith in
       record {
-        made = ap₂ (λ (x : ℕ) (y : Bool). record { left = x; cut = y }) a (sym (lt-ltb number (length (map f (below m))) n));
+        made = sym (made_short number (length (map f (below m))) (omega (arith, due_long, r.sum)));
         disk = sym (stores_zero (store_disk p) (map f (up_from i (m - i))) k) ∙ ap (λ (x : ℕ). store_all (store_disk p) (take x (map f (up_from i (m - i)))) k) (sym e) ∙ r.rest;
       }
 
-  pub rest_done : (i left : ℕ) (k : Disk) → StoresLeft i left k → m ≤ i → Storing p number (map f (below m)) k₀ (record { left = left; cut = false }) k
-  unfolding made_of
+  pub rest_done : (i left : ℕ) (k : Disk) → StoresLeft i left k → m ≤ i → Storing p number (map f (below m)) k₀ (Ok left) k
   rest_done i left k r h =
       let n : length (map f (below m)) ≤ number = omega (arith, due_long, r.within, r.sum) in
       let a : left ≡ number - length (map f (below m)) = omega (arith, due_long, r.within, r.sum) in
       record {
-        made = ap₂ (λ (x : ℕ) (y : Bool). record { left = x; cut = y }) a (sym (le-ltb number (length (map f (below m))) n));
+        made = ap (λ (x : ℕ). Ok x) a ∙ sym (made_enough number (length (map f (below m))) n);
         disk = sym (stores_nil (store_disk p) left k) ∙ ap (λ (x : List ℕ). store_all (store_disk p) (take left (map f x)) k) (sym (up_from_end i m h)) ∙ r.rest;
       }
 

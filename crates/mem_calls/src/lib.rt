@@ -1,22 +1,52 @@
 // What every public call shares: its result, its checks, its cut (01, Store count; Refusals).
 #![tactic(auto)]
 
-ghost use Rattle.std.specs.Prelude.{◌≡◌, true, ◌≤◌, length, replicate};
+ghost use Rattle.std.specs.Prelude.{◌≡◌, true, not, ◌≤◌, length, replicate};
 ghost use Rattle.spec.specs.declared.State.{State as StateOf};
 ghost use Rattle.spec.specs.declared.Answer.TheVariants.{Cut};
+ghost use Rattle.spec.specs.Calls.{ruled};
 ghost use Rattle.spec.specs.Drives.{mk_disk};
 ghost use Rattle.spec.specs.Engine.{lent_ok_of};
+ghost use Rattle.spec.specs.Lists.Opt.{none};
 ghost use Rattle.spec.specs.Memory.{mk_memory, zero_state};
 ghost use Rattle.spec.specs.Params.{in_range, most_with, offline_len};
+ghost use Rattle.mem_calls.specs.Left.{answer_of, checked};
 ghost use Rattle.mem_calls.specs.Listed.{list_rule_of};
 
 use spec::{Answer, Done, Params, State};
 
-// 01, Refusals: no check holds, or the refusal of the first that does.
-#[derive(Clone, Copy)]
-pub enum Check {
-    Pass,
-    Fail(Answer),
+// 01, Refusals: what a call is refused for, by its number; 9 gives the lowest bad zone too. 02, item 4, adds 10.
+#[derive(Clone, Copy, Debug, PartialEq, Eq)]
+pub enum Refusal {
+    Range,
+    Lengths,
+    Missing,
+    Address,
+    NotDue,
+    NoCount,
+    Wait,
+    Full,
+    BadZone(u64),
+    FewZones,
+}
+
+impl From<Refusal> for Answer {
+    ghost from_gives = { λ r a. a ≡ answer_of r };
+
+    fn from(why: Refusal) -> Answer {
+        match why {
+            Refusal::Range => Answer::Refused(1),
+            Refusal::Lengths => Answer::Refused(2),
+            Refusal::Missing => Answer::Refused(3),
+            Refusal::Address => Answer::Refused(4),
+            Refusal::NotDue => Answer::Refused(5),
+            Refusal::NoCount => Answer::Refused(6),
+            Refusal::Wait => Answer::Refused(7),
+            Refusal::Full => Answer::Refused(8),
+            Refusal::BadZone(zone) => Answer::BadZone(zone),
+            Refusal::FewZones => Answer::Refused(10),
+        }
+    }
 }
 
 // 01, Refusals, 2: the lent buffers' lengths; 02, item 4: the list's too.
@@ -28,27 +58,24 @@ pub fn lent_ok(
     addresses: &[u8],
     compact: &[u8],
     inflight: &[u8],
-) -> bool
+) -> Result<(), Refusal>
     requires { in_range p ≡ true }
-    ensures { (st : StateOf) → result ≡ lent_ok_of p offline.now (mk_disk image.now pointers.now)
-        (mk_memory st addresses.now compact.now inflight.now) }
+    ensures { (st : StateOf) → checked result ≡ ruled 2 (not (lent_ok_of p offline.now (mk_disk image.now pointers.now)
+        (mk_memory st addresses.now compact.now inflight.now))) none }
 {
-    if offline.len() != disk_shape::offline_len(p) {
-        return false;
+    if offline.len() != disk_shape::offline_len(p)
+        || image.len() != disk_shape::image_len(p)
+        || pointers.len() != disk_shape::pointers_len(p)
+    {
+        return Err(Refusal::Lengths);
     }
-    if image.len() != disk_shape::image_len(p) {
-        return false;
+    if addresses.len() != disk_shape::addresses_len(p)
+        || compact.len() != disk_shape::compact_len(p)
+        || inflight.len() != disk_shape::inflight_len(p)
+    {
+        return Err(Refusal::Lengths);
     }
-    if pointers.len() != disk_shape::pointers_len(p) {
-        return false;
-    }
-    if addresses.len() != disk_shape::addresses_len(p) {
-        return false;
-    }
-    if compact.len() != disk_shape::compact_len(p) {
-        return false;
-    }
-    inflight.len() == disk_shape::inflight_len(p)
+    Ok(())
 }
 
 // 02, item 4: with so many good zones on each drive no call refuses the list. Where few bytes are to be looked at it is all of them.
@@ -63,22 +90,20 @@ fn enough(p: Params) -> usize
     4 + (p.L - 1) / segment
 }
 
-// 02, item 4: 10 where a drive has fewer than four good zones, else 1 where L is above the narrow bound, else 0.
-pub fn list_rule(p: Params, offline: &[u8]) -> u64
+// 02, item 4: 10 where a drive has fewer than four good zones, else 1 where L is above the narrow bound.
+pub fn list_rule(p: Params, offline: &[u8]) -> Result<(), Refusal>
     requires p_value { in_range p ≡ true }
     requires offline_len { length offline.now ≡ offline_len p }
-    ensures { result ≡ list_rule_of p offline.now }
+    ensures { checked result ≡ list_rule_of p offline.now }
 {
     let n = disk_zones::good_count(p, offline, enough(p));
-    let few = n < 4;
-    let narrow = disk_shape::most_with(p, n) < p.L;
-    if few {
-        return 10;
+    if n < 4 {
+        return Err(Refusal::FewZones);
     }
-    if narrow {
-        return 1;
+    if disk_shape::most_with(p, n) < p.L {
+        return Err(Refusal::Range);
     }
-    0
+    Ok(())
 }
 
 // 01, Store count: tables and state are all zeros, other buffers as they came.

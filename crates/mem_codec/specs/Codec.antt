@@ -1,7 +1,8 @@
 -- The state as bytes: sections of little-endian numbers read and written, over width and count; what is written is read back (01, The array). Assumes nothing.
 use Rattle.std.specs.Prelude.{◌≡◌, refl, map, List, [], ◌∷◌, ◌++◌, ℕ, suc, ◌+◌, ◌*◌, ◌≤◌, ◌<◌, length, get_or, take, drop, set}
 use Rattle.std.proofs.Math.Path.{sym}
-use Rattle.std.proofs.Common.{ap, ap₂, ◌∙◌, append-nil, arith, add-one, add-zero, mul_comm, mod-eq_of_lt, lit<, length-set, drop_of_length-le, drop-cons, length-take-le, take_all}
+use Rattle.std.proofs.Common.{ap, ap₂, ◌∙◌, append-nil, arith, add-one, add-zero, mul_comm}
+use Rattle.std.proofs.Common.{mod-eq_of_lt, lit<, length-set, drop_of_length-le, drop-cons, length-take-le, take_all, mul-add, mul-le-mul_left}
 use Rattle.std.proofs.lemmas.List.{set_at}
 use Rattle.std.proofs.Math.Seq.{append_snoc}
 use Rattle.spec.specs.Bytes.{le_of, to_le, part, splice}
@@ -37,6 +38,13 @@ read_all w at i n bs z out q h e =
     e ∙ ap (λ (k : ℕ). numbers_at w k at bs ++ drop k z) q
     ∙ ap (λ (x : List ℕ). numbers_at w n at bs ++ x) (drop_of_length-le z f) ∙ append-nil (numbers_at w n at bs)
 
+-- number i of n ends within them
+pub number_fits : (w v n i at m : ℕ) → v ≡ w → i < n → at + w * n ≤ m → at + v * i + w ≤ m
+number_fits w v n i at m e h g =
+    let k : i + 1 ≤ n = omega (arith, h) in
+    let f : w * (i + 1) ≤ w * n = mul-le-mul_left w k in
+    rw e (omega (arith, g, f, mul-add w i 1))
+
 -- a section of one number
 pub number_one : (w at : ℕ) (bs : List ℕ) → get_or (numbers_at w 1 at bs) 0 0 ≡ le_of (part at w bs)
 unfolding numbers_at
@@ -67,17 +75,12 @@ module _ (e : ℕ → List ℕ) (w : ℕ) (long : (n : ℕ) → length (e n) ≡
   pub written_all : (at i : ℕ) (l l' ns : List ℕ) → length ns ≤ i → l' ≡ splice l at (flat e (take i ns)) → l' ≡ splice l at (flat e ns)
   written_all at i l l' ns h p = p ∙ ap (λ (x : List ℕ). splice l at (flat e x)) (take_all i ns h)
 
--- a byte stored, and bytes, are sections of width 1
+-- a byte stored is a section of width 1
 pub byte_written : (l : List ℕ) (at v : ℕ) → v < 256 → at < length l → set l at v ≡ splice l at (to_le 1 v)
 unfolding to_le
 byte_written l at v h g =
     ap (λ (i : ℕ). set l i v) (sym (add-zero at)) ∙ wrote_one l l at 0 [] v (sym (splice-nil l at)) refl (omega arith)
     ∙ ap (λ (x : ℕ). splice l at (x ∷ [])) (sym (mod-eq_of_lt h))
-
-pub bytes_same : (ns : List ℕ) → ((k : ℕ) → k < length ns → get_or ns k 0 < 256) → flat (to_le 1) ns ≡ ns
-unfolding flat to_le
-bytes_same [] f = refl
-bytes_same (n ∷ ns) f = ap₂ ◌∷◌ (mod-eq_of_lt (f 0 (omega arith))) (bytes_same ns (λ k h. f (suc k) (omega arith)))
 
 -- ---- the sections of the state
 

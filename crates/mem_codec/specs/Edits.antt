@@ -3,33 +3,19 @@
 use Rattle.std.specs.Prelude.{◌≡◌, refl, get_or, take, set}
 use Rattle.std.proofs.Common.{sym, ◌∙◌, arith, zero-add, add_assoc, mul-le-mul_left, take-append-drop, length-take-le, take_at, drop_at}
 use Rattle.std.proofs.Math.Path.{ap, ap₂}
-use mathlib.Core.List.{List, [], ◌∷◌, ◌++◌, map, append_assoc}
+use mathlib.Core.List.{List, [], ◌∷◌, ◌++◌, map}
 use Prim.Native.Nat.{ℕ, zero, suc, ◌+◌, ◌*◌, ◌≤◌, ◌<◌}
 use Rattle.std.proofs.Math.Nat.{mul-add}
 use Rattle.std.proofs.Math.ListN.{length, drop}
-use Rattle.std.proofs.lemmas.List.{take-append-le, drop-append-le}
 use Rattle.spec.specs.Bytes.{to_le, splice}
 use Rattle.spec.specs.Lists.{flat, total, zipped}
 use Rattle.spec.specs.Memory.{Section, section, section_len, section_bytes}
+use Rattle.disk_blocks.specs.Split.{splice_left, splice_right}
 use Rattle.mem_codec.specs.Codec.{length_numbers}
 use Rattle.law_basic.specs.Le.{length-to_le}
 use Rattle.law_basic.specs.Ranges.{flat_append}
 use Rattle.law_basic.specs.Sections.{SectionCounts, sections_bytes, length-section}
-use Rattle.law_basic.specs.Splice.{length-splice, splice-cons-suc}
-
--- ---- splices in lists put together
-
-splice_left : (s t : List ℕ) (a : ℕ) (m : List ℕ) → a + length m ≤ length s → splice (s ++ t) a m ≡ splice s a m ++ t
-unfolding splice
-splice_left s t a m h =
-    ap₂ (λ (x y : List ℕ). x ++ (m ++ y)) (take-append-le a s t (omega arith)) (drop-append-le (a + length m) s t h)
-    ∙ ap (λ (x : List ℕ). take a s ++ x) (sym (append_assoc m (drop (a + length m) s) t)) ∙ sym (append_assoc (take a s) (m ++ drop (a + length m) s) t)
-
-splice_right : (s t : List ℕ) (a : ℕ) (m : List ℕ) → splice (s ++ t) (length s + a) m ≡ s ++ splice t a m
-splice_right [] t a m = ap (λ (x : ℕ). splice t x m) (zero-add a)
-splice_right (x ∷ s) t a m =
-    let e : length (x ∷ s) + a ≡ suc (length s + a) = omega arith in
-    ap (λ (k : ℕ). splice (x ∷ (s ++ t)) k m) e ∙ splice-cons-suc x (s ++ t) (length s + a) m ∙ ap (λ (l : List ℕ). x ∷ l) (splice_right s t a m)
+use Rattle.law_basic.specs.Splice.{length-splice}
 
 -- ---- numbers of w bytes each
 

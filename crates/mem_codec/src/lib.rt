@@ -1,8 +1,8 @@
 // The state as bytes (01, The array): sections of numbers of one width, in the order of the fields.
 #![tactic(auto)]
 
-ghost use Rattle.std.specs.Prelude.{◌≡◌, ◌+◌, ◌*◌, ◌≤◌, ◌<◌, length, take};
-ghost use Rattle.spec.specs.Bytes.{to_le, splice};
+ghost use Rattle.std.specs.Prelude.{◌≡◌, ℕ, map, ◌+◌, ◌*◌, ◌≤◌, ◌<◌, length, take};
+ghost use Rattle.spec.specs.Bytes.{le_of, to_le, part, splice};
 ghost use Rattle.spec.specs.Lists.{flat};
 ghost use Rattle.spec.specs.Memory.{state_sections, numbers_at, state_len, state_of, state_bytes};
 ghost use Rattle.mem_codec.specs.Changes.{count_edits, mark_edits, cell_edits};
@@ -42,109 +42,94 @@ pub const OFFSETS_AT: usize = STAMPS_AT + 8 * 64;
 
 const STATE_LEN: usize = OFFSETS_AT + 4 * 64;
 
-// ---- a section read
+// ---- a section of numbers
 
-// 8 numbers of 1 byte.
-fn bytes_at(src: &[u8], at: usize) -> [u8; 8]
-    requires { at + 8 ≤ length src.now }
-    ensures { result ≡ numbers_at 1 8 at src.now }
+// A number of the state: how many bytes it has, and how it stands in them.
+pub trait Number: Copy + Default {
+    ghost WIDTH: { ℕ };
+
+    ghost value: { Self → ℕ };
+
+    const WIDTH: usize;
+
+    // The number that the bytes from index at say.
+    fn read(src: &[u8], at: usize) -> Self
+        requires { at + WIDTH ≤ length src.now }
+        ensures { value result ≡ le_of (part at WIDTH src.now) };
+
+    // Writes its bytes from index at.
+    fn write(self, dst: &mut [u8], at: usize)
+        requires { at + WIDTH ≤ length dst.old }
+        ensures { dst.new ≡ splice dst.old at (to_le WIDTH (value self)) };
+}
+
+impl Number for u8 {
+    ghost WIDTH = { 1 };
+
+    ghost value = { λ n. n };
+
+    const WIDTH: usize = 1;
+
+    fn read(src: &[u8], at: usize) -> u8 {
+        src[at]
+    }
+
+    fn write(self, dst: &mut [u8], at: usize) {
+        dst[at] = self;
+    }
+}
+
+impl Number for u32 {
+    ghost WIDTH = { 4 };
+
+    ghost value = { λ n. n };
+
+    const WIDTH: usize = 4;
+
+    fn read(src: &[u8], at: usize) -> u32 {
+        bits_le::read_le32(src, at)
+    }
+
+    fn write(self, dst: &mut [u8], at: usize) {
+        bits_le::write_le32(dst, at, self);
+    }
+}
+
+impl Number for u64 {
+    ghost WIDTH = { 8 };
+
+    ghost value = { λ n. n };
+
+    const WIDTH: usize = 8;
+
+    fn read(src: &[u8], at: usize) -> u64 {
+        bits_le::read_le64(src, at)
+    }
+
+    fn write(self, dst: &mut [u8], at: usize) {
+        bits_le::write_le64(dst, at, self);
+    }
+}
+
+// N numbers read from index at on.
+fn numbers_at<T: Number, const N: usize>(src: &[u8], at: usize) -> [T; N]
+    requires { at + T.WIDTH * N ≤ length src.now }
+    ensures { map T.value result ≡ numbers_at T.WIDTH N at src.now }
 {
-    let mut out = [0u8; 8];
-    let mut i = 0;
-    while i < 8 {
-        out[i] = src[at + i];
-        i += 1;
+    let mut out = [T::default(); N];
+    for i in 0..N {
+        out[i] = T::read(src, at + T::WIDTH * i);
     }
     out
 }
 
-// 8 numbers of 4 bytes.
-fn words_at(src: &[u8], at: usize) -> [u32; 8]
-    requires { at + 32 ≤ length src.now }
-    ensures { result ≡ numbers_at 4 8 at src.now }
+// Numbers written from index at on.
+fn put_numbers<T: Number>(dst: &mut [u8], at: usize, ns: &[T])
+    requires { at + T.WIDTH * length ns.now ≤ length dst.old }
+    ensures { dst.new ≡ splice dst.old at (flat (to_le T.WIDTH) (map T.value ns.now)) }
 {
-    let mut out = [0u32; 8];
-    let mut i = 0;
-    while i < 8 {
-        out[i] = bits_le::read_le32(src, at + 4 * i);
-        i += 1;
-    }
-    out
-}
-
-// 8 numbers of 8 bytes.
-fn longs_at(src: &[u8], at: usize) -> [u64; 8]
-    requires { at + 64 ≤ length src.now }
-    ensures { result ≡ numbers_at 8 8 at src.now }
-{
-    let mut out = [0u64; 8];
-    let mut i = 0;
-    while i < 8 {
-        out[i] = bits_le::read_le64(src, at + 8 * i);
-        i += 1;
-    }
-    out
-}
-
-// 64 numbers of 4 bytes.
-fn many_words_at(src: &[u8], at: usize) -> [u32; 64]
-    requires { at + 256 ≤ length src.now }
-    ensures { result ≡ numbers_at 4 64 at src.now }
-{
-    let mut out = [0u32; 64];
-    let mut i = 0;
-    while i < 64 {
-        out[i] = bits_le::read_le32(src, at + 4 * i);
-        i += 1;
-    }
-    out
-}
-
-// 64 numbers of 8 bytes.
-fn many_longs_at(src: &[u8], at: usize) -> [u64; 64]
-    requires { at + 512 ≤ length src.now }
-    ensures { result ≡ numbers_at 8 64 at src.now }
-{
-    let mut out = [0u64; 64];
-    let mut i = 0;
-    while i < 64 {
-        out[i] = bits_le::read_le64(src, at + 8 * i);
-        i += 1;
-    }
-    out
-}
-
-// ---- a section written
-
-// Numbers of 1 byte.
-fn put_bytes(dst: &mut [u8], at: usize, ns: &[u8])
-    requires { at + length ns.now ≤ length dst.old }
-    ensures { dst.new ≡ splice dst.old at (flat (to_le 1) ns.now) }
-{
-    disk_blocks::copy_part(dst, at, ns);
-}
-
-// Numbers of 4 bytes.
-fn put_words(dst: &mut [u8], at: usize, ns: &[u32])
-    requires { at + 4 * length ns.now ≤ length dst.old }
-    ensures { dst.new ≡ splice dst.old at (flat (to_le 4) ns.now) }
-{
-    let mut i = 0;
-    while i < ns.len() {
-        bits_le::write_le32(dst, at + 4 * i, ns[i]);
-        i += 1;
-    }
-}
-
-// Numbers of 8 bytes.
-fn put_longs(dst: &mut [u8], at: usize, ns: &[u64])
-    requires { at + 8 * length ns.now ≤ length dst.old }
-    ensures { dst.new ≡ splice dst.old at (flat (to_le 8) ns.now) }
-{
-    let mut i = 0;
-    while i < ns.len() {
-        bits_le::write_le64(dst, at + 8 * i, ns[i]);
-        i += 1;
+    for i in 0..ns.len() {
+        ns[i].write(dst, at + T::WIDTH * i);
     }
 }
 
@@ -171,17 +156,18 @@ pub fn state_len() -> usize
 }
 
 // The state that the bytes say.
+#[tactic(auto, using(crate::specs::Codec::state_len_lem))]
 pub fn decode(bytes: &[u8]) -> State
     requires { length bytes.now ≡ state_len }
     ensures { result ≡ state_of bytes.now }
 {
-    let numbers = words_at(bytes, NUMBERS_AT);
-    let filled = bytes_at(bytes, FILLED_AT);
-    let writes = bytes_at(bytes, WRITES_AT);
-    let landed = bytes_at(bytes, LANDED_AT);
-    let addresses = many_longs_at(bytes, ADDRESSES_AT);
-    let stamps = many_longs_at(bytes, STAMPS_AT);
-    let offsets = many_words_at(bytes, OFFSETS_AT);
+    let numbers: [u32; 8] = numbers_at(bytes, NUMBERS_AT);
+    let filled: [u8; 8] = numbers_at(bytes, FILLED_AT);
+    let writes: [u8; 8] = numbers_at(bytes, WRITES_AT);
+    let landed: [u8; 8] = numbers_at(bytes, LANDED_AT);
+    let addresses: [u64; 64] = numbers_at(bytes, ADDRESSES_AT);
+    let stamps: [u64; 64] = numbers_at(bytes, STAMPS_AT);
+    let offsets: [u32; 64] = numbers_at(bytes, OFFSETS_AT);
     State {
         live: bytes[LIVE_AT],
         missing: bytes[MISSING_AT],
@@ -200,13 +186,14 @@ pub fn decode(bytes: &[u8]) -> State
 }
 
 // Eighth i of the state that the bytes say.
+#[tactic(auto, using(crate::specs::Codec::state_len_lem))]
 pub fn row_at(bytes: &[u8], i: usize) -> Row
     requires { (length bytes.now ≡ state_len) × (i < 8) }
     ensures { result ≡ slot_row (state_of bytes.now) i }
 {
-    let addresses = longs_at(bytes, ADDRESSES_AT + 64 * i);
-    let stamps = longs_at(bytes, STAMPS_AT + 64 * i);
-    let offsets = words_at(bytes, OFFSETS_AT + 32 * i);
+    let addresses: [u64; 8] = numbers_at(bytes, ADDRESSES_AT + 64 * i);
+    let stamps: [u64; 8] = numbers_at(bytes, STAMPS_AT + 64 * i);
+    let offsets: [u32; 8] = numbers_at(bytes, OFFSETS_AT + 32 * i);
     let number = bits_le::read_le32(bytes, NUMBERS_AT + 4 * i);
     Row {
         number,
@@ -220,6 +207,7 @@ pub fn row_at(bytes: &[u8], i: usize) -> Row
 }
 
 // The bytes of the state.
+#[tactic(auto, using(crate::specs::Codec::state_len_lem))]
 pub fn encode(dst: &mut [u8], st: State)
     requires { length dst.old ≡ state_len }
     ensures { dst.new ≡ state_bytes st }
@@ -240,13 +228,13 @@ pub fn encode(dst: &mut [u8], st: State)
         st.opened,
         st.next,
     );
-    put_words(dst, NUMBERS_AT, &numbers);
-    put_bytes(dst, FILLED_AT, &filled);
-    put_bytes(dst, WRITES_AT, &writes);
-    put_bytes(dst, LANDED_AT, &landed);
-    put_longs(dst, ADDRESSES_AT, &addresses);
-    put_longs(dst, STAMPS_AT, &stamps);
-    put_words(dst, OFFSETS_AT, &offsets);
+    put_numbers(dst, NUMBERS_AT, &numbers);
+    put_numbers(dst, FILLED_AT, &filled);
+    put_numbers(dst, WRITES_AT, &writes);
+    put_numbers(dst, LANDED_AT, &landed);
+    put_numbers(dst, ADDRESSES_AT, &addresses);
+    put_numbers(dst, STAMPS_AT, &stamps);
+    put_numbers(dst, OFFSETS_AT, &offsets);
 }
 
 // ---- a change of the state
@@ -279,12 +267,13 @@ fn put_cells(dst: &mut [u8], i: usize, addresses: &[u64; 8], stamps: &[u64; 8], 
     ensures { dst.new ≡ written_all_of state_sections dst.old (cell_edits i addresses.now stamps.now offsets.now) }
 {
     let at = 8 * i;
-    put_longs(dst, ADDRESSES_AT + 8 * at, addresses);
-    put_longs(dst, STAMPS_AT + 8 * at, stamps);
-    put_words(dst, OFFSETS_AT + 4 * at, offsets);
+    put_numbers(dst, ADDRESSES_AT + 8 * at, addresses);
+    put_numbers(dst, STAMPS_AT + 8 * at, stamps);
+    put_numbers(dst, OFFSETS_AT + 4 * at, offsets);
 }
 
 // The change made in the state's bytes: only what it names is written.
+#[tactic(auto, using(crate::specs::Codec::state_len_lem))]
 pub fn put_change(dst: &mut [u8], c: Change)
     requires { length dst.old ≡ state_len }
     ensures { dst.new ≡ state_bytes (changed (state_of dst.old) c) }

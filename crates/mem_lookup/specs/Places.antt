@@ -1,5 +1,5 @@
 -- What is wrong with a place to be read, by the pointers' bytes (01, Refusals, 9). Assumes nothing.
-use Rattle.std.specs.Prelude.{ℕ, ◌≤◌, ◌<◌, ltb, length, Bool, true, false, ◌&&◌, ◌||◌, List, [], ◌∷◌, ◌≡◌, refl}
+use Rattle.std.specs.Prelude.{ℕ, ◌≤◌, ◌<◌, length, Bool, true, false, ◌&&◌, ◌||◌, List, [], ◌∷◌, ◌≡◌, refl, Option, Some, None}
 use Rattle.spec.specs.Drives.{View, view_of, mk_disk, pointer_at, pointer_of}
 use Rattle.spec.specs.Lists.{cons_if, is_in}
 use Rattle.spec.specs.Params.{between, image_len, pointers_len, place_block, place_zone, place_drive}
@@ -8,7 +8,7 @@ use Rattle.spec.specs.Segments.{is_place}
 use Rattle.spec.specs.declared.Params.{Params}
 use Rattle.law_views.specs.Views.{pointer_view}
 use Rattle.disk_holders.specs.Held.{place_outside}
-use borrow.Author.Tests.{le-leb, lt-leb, lt-ltb, le-ltb}
+use borrow.Author.Tests.{le-leb, lt-leb}
 use Rattle.std.proofs.Math.Dec.{leb}
 use Rattle.std.proofs.Math.Bool.{cond, not}
 use Rattle.std.proofs.Math.Path.{sym, ap}
@@ -18,16 +18,20 @@ use Rattle.std.proofs.Common.{◌∙◌, subst, arith}
 abbrev pub is_bad : Params → ℕ → ℕ → ℕ → ℕ → Bool
 is_bad p n gone d b = not (between 1 p.S b) || (not (is_in gone d) && leb n b)
 
+-- the bad zone, if there is one, as the list of them
+abbrev pub one_fault : Option ℕ → List ℕ
+one_fault None = []
+one_fault (Some z) = z ∷ []
+
 module _ (p : Params) (off im ps : List ℕ) (gone q : ℕ) (h : length im ≡ image_len p) (g : length ps ≡ pointers_len p) where
   abbrev v : View
   v = view_of p off im ps
 
   -- outside the image: zone 0
-  pub fault_outside : 0 < p.Z → is_place p (view_of p off im ps) gone q ≡ false → place_faults p (view_of p off im ps) gone q ≡ cons_if (ltb 0 p.Z) 0 []
-  unfolding place_faults cons_if
-  fault_outside low e =
+  pub fault_outside : is_place p (view_of p off im ps) gone q ≡ false → place_faults p (view_of p off im ps) gone q ≡ 0 ∷ []
+  unfolding place_faults
+  fault_outside e =
       ap (λ (x : Bool). cond (not x) (0 ∷ []) (cons_if (is_bad p (pointer_at v (place_drive p q) (place_zone p q)) gone (place_drive p q) (place_block p q)) (place_zone p q) [])) e
-      ∙ sym (ap (λ (x : Bool). cons_if x 0 []) (lt-ltb 0 p.Z low))
 
   module _ (d z b : ℕ) (ed : d ≡ place_drive p q) (ez : z ≡ place_zone p q) (eb : b ≡ place_block p q) where
     fault_at : is_place p v gone q ≡ true → place_faults p v gone q ≡ cons_if (is_bad p (pointer_at v d z) gone d b) z []
@@ -37,21 +41,21 @@ module _ (p : Params) (off im ps : List ℕ) (gone q : ℕ) (h : length im ≡ i
         ∙ sym (λ j. cons_if (is_bad p (pointer_at v (ed j) (ez j)) gone (ed j) (eb j)) (ez j) [])
 
     -- a drive from N on is outside
-    pub fault_past : 0 < p.Z → p.N ≤ d → place_faults p (view_of p off im ps) gone q ≡ cons_if (ltb 0 p.Z) 0 []
-    fault_past low e = fault_outside low (place_outside p v gone q (subst (λ (n : ℕ). p.N ≤ n) ed e))
+    pub fault_past : p.N ≤ d → place_faults p (view_of p off im ps) gone q ≡ 0 ∷ []
+    fault_past e = fault_outside (place_outside p v gone q (subst (λ (n : ℕ). p.N ≤ n) ed e))
 
     module _ (hd : d < p.N) (hz : z < p.Z) (is : is_place p (view_of p off im ps) gone q ≡ true) where
       fault_within : place_faults p v gone q ≡ cons_if (is_bad p (pointer_of p ps d z) gone d b) z []
       fault_within =
           fault_at is ∙ ap (λ (x : ℕ). cons_if (is_bad p x gone d b) z []) (pointer_view p off (mk_disk im ps) d z hd hz (record { image_long = h; pointers_long = g }))
 
-      pub fault_bad : is_bad p (pointer_of p ps d z) gone d b ≡ true → place_faults p (view_of p off im ps) gone q ≡ cons_if (ltb z p.Z) z []
-      fault_bad e = fault_within ∙ ap (λ (x : Bool). cons_if x z []) (e ∙ sym (lt-ltb z p.Z hz))
-
-      pub place_fault_none : is_bad p (pointer_of p ps d z) gone d b ≡ false → place_faults p (view_of p off im ps) gone q ≡ cons_if (ltb p.Z p.Z) p.Z []
+      pub fault_bad : is_bad p (pointer_of p ps d z) gone d b ≡ true → place_faults p (view_of p off im ps) gone q ≡ z ∷ []
       unfolding cons_if
-      place_fault_none e =
-          fault_within ∙ ap (λ (x : Bool). cons_if x z []) e ∙ sym (ap (λ (x : Bool). cons_if x p.Z []) (le-ltb p.Z p.Z (omega arith)))
+      fault_bad e = fault_within ∙ ap (λ (x : Bool). cons_if x z []) e
+
+      pub place_fault_none : is_bad p (pointer_of p ps d z) gone d b ≡ false → place_faults p (view_of p off im ps) gone q ≡ []
+      unfolding cons_if
+      place_fault_none e = fault_within ∙ ap (λ (x : Bool). cons_if x z []) e
 
 -- a place with no fault is one
 pub fault_free_place : (p : Params) (v : View) (gone q : ℕ) → place_faults p v gone q ≡ [] → is_place p v gone q ≡ true

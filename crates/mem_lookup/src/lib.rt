@@ -1,25 +1,24 @@
 // Where an address lies, what is wrong with a place to be read, and where the compact table shows a stripe (01, Read; What a zone holds; Refusals, 9).
 #![tactic(auto)]
 
-ghost use Rattle.std.specs.Prelude.{◌≡◌, true, ◌&&◌, List, [], ◌∷◌, ℕ, ◌+◌, ◌≤◌, ◌<◌, ltb, eqb, length};
+ghost use Rattle.disk_drives.specs.Viewed.{viewed};
+ghost use Rattle.std.specs.Prelude.{◌≡◌, true, ◌&&◌, List, [], ◌∷◌, ℕ, ◌+◌, ◌≤◌, ◌<◌, ltb, length, is_some, is_none, unwrap_or, IfSome};
 ghost use Rattle.mem_calls.specs.Left.{checked};
 ghost use Rattle.spec.specs.Calls.{first_refusal};
 ghost use Rattle.spec.specs.Calls.Check.{zones};
-ghost use Rattle.spec.specs.Drives.{view_of, mk_disk, pointer_of};
+ghost use Rattle.spec.specs.Drives.{view_of, pointer_of};
 ghost use Rattle.spec.specs.Lists.{cons_if, is_nil, first_or};
 ghost use Rattle.spec.specs.Memory.{shown_at};
-ghost use Rattle.spec.specs.Params.{in_range, image_len, pointers_len, offline_len, addresses_len, compact_len};
+ghost use Rattle.spec.specs.Params.{in_range, image_len, pointers_len, addresses_len, compact_len};
 ghost use Rattle.spec.specs.Read.{place_faults, lies};
 ghost use Rattle.spec.specs.Segments.{is_place};
-ghost use Rattle.law_views.specs.Views.{Whole};
 ghost use Rattle.law_drives.specs.Segs.{Here};
-ghost use Rattle.disk_holders.specs.Held.{is_one_of};
 ghost use Rattle.mem_lookup.specs.Lies.{found_of};
-ghost use Rattle.mem_lookup.specs.Places.{is_bad};
+ghost use Rattle.mem_lookup.specs.Places.{is_bad, one_fault};
 
-use disk_holders::Held;
-use mem_calls::Check;
-use spec::{Answer, Params, Place};
+use disk_drives::Drives;
+use mem_calls::Refusal;
+use spec::{Params, Place, Serial};
 
 // 01, Read: where an address lies: nowhere, on a present drive, on the missing one.
 #[derive(Clone, Copy)]
@@ -63,66 +62,53 @@ fn is_bad(p: Params, pointers: &[u8], gone: u8, drive: usize, zone: usize, block
     disk_zones::pointer(p, pointers, drive, zone) as usize <= block
 }
 
-// 01, Refusals, 9: the bad zone of a place to be read, whose segment has been looked up; Z where there is none. Outside the image it is zone 0.
-pub fn held_fault(p: Params, pointers: &[u8], gone: u8, q: Place, held: Held) -> usize
+// 01, Refusals, 9: the bad zone, if there is one, of a place to be read, whose segment has been looked up. Outside the image it is zone 0.
+pub fn held_fault(
+    p: Params,
+    pointers: &[u8],
+    gone: u8,
+    q: Place,
+    held: Option<Serial>,
+) -> Option<usize>
     requires p_value { in_range p ≡ true }
     requires pointers_len { length pointers.now ≡ pointers_len p }
-    ensures { (off : List ℕ) (im : List ℕ)
+    ensures faults { (off : List ℕ) (im : List ℕ)
         → length im ≡ image_len p
-        → is_place p (view_of p off im pointers.now) gone q.0 ≡ is_one_of held
-        → place_faults p (view_of p off im pointers.now) gone q.0 ≡ cons_if (ltb result p.Z) result [] }
+        → is_place p (view_of p off im pointers.now) gone q.0 ≡ is_some held
+        → place_faults p (view_of p off im pointers.now) gone q.0 ≡ one_fault result }
+    ensures low { IfSome result (λ z. z < p.Z) }
 {
     let drive = disk_shape::place_drive(p, q);
     let zone = disk_shape::place_zone(p, q);
     let block = disk_shape::place_block(p, q);
     if p.N <= drive {
-        return 0;
+        return Some(0);
     }
-    if let Held::One(_) = held {
-        if is_bad(p, pointers, gone, drive, zone, block) {
-            return zone;
-        }
-        return p.Z;
+    match held {
+        None => Some(0),
+        Some(_) if is_bad(p, pointers, gone, drive, zone, block) => Some(zone),
+        Some(_) => None,
     }
-    0
 }
 
-// 01, Refusals, 9: the bad zone of a place to be read; Z where there is none.
-pub fn place_fault(
-    p: Params,
-    image: &[u8],
-    pointers: &[u8],
-    offline: &[u8],
-    gone: u8,
-    q: Place,
-) -> usize
-    requires p_value { in_range p ≡ true }
-    requires whole { Whole p (mk_disk image.now pointers.now) × (length offline.now ≡ offline_len p) × Here p gone }
-    ensures { place_faults p (view_of p offline.now image.now pointers.now) gone q.0 ≡ cons_if (ltb result p.Z) result [] }
+// 01, Refusals, 9: the bad zone of a place to be read, if there is one.
+pub fn place_fault(drives: &Drives<'_>, gone: u8, q: Place) -> Option<usize>
+    requires here { Here drives.now.p gone }
+    ensures faults { place_faults drives.now.p (viewed drives.now) gone q.0 ≡ one_fault result }
+    ensures low { IfSome result (λ z. z < drives.now.p.Z) }
 {
-    let held = disk_holders::place_held(p, image, pointers, offline, gone, q);
-    held_fault(p, pointers, gone, q, held)
+    let held = disk_holders::place_held(drives, gone, q);
+    held_fault(drives.p, drives.pointers, gone, q, held)
 }
 
 // 01, Refusals, 9: refused where the number is one of a zone.
-pub fn zone_check(p: Params, zone: usize) -> Check
+pub fn zone_check(p: Params, zone: usize) -> Result<(), Refusal>
     ensures { checked result ≡ first_refusal (zones (cons_if (ltb zone p.Z) zone []) ∷ []) }
 {
     if zone < p.Z {
-        return Check::Fail(Answer::BadZone(zone as u64));
+        return Err(Refusal::BadZone(zone as u64));
     }
-    Check::Pass
-}
-
-// The lower of two bounds: what lies below it lies below both.
-fn lower(a: usize, b: usize) -> usize
-    ensures by_index { (o : ℕ) → ltb o result ≡ (ltb o a && ltb o b) }
-    ensures upper_bound { (result ≤ a) × (result ≤ b) }
-{
-    if b < a {
-        return b;
-    }
-    a
+    Ok(())
 }
 
 // Where the data offsets below a pointer end in the group of offset first.
@@ -135,11 +121,10 @@ fn group_end(p: Params, pointer: usize, first: usize) -> usize
     if pointer == 0 {
         return 0;
     }
-    let end = lower(first + p.G, p.S);
-    lower(end, pointer - 1)
+    (first + p.G).min(p.S).min(pointer - 1)
 }
 
-// 01, What a zone holds: the lowest offset at which the table shows stripe s on a drive; S where it shows none.
+// 01, What a zone holds: the lowest offset at which the table shows stripe s on a drive, if it shows it.
 pub fn shown_at(
     p: Params,
     pointers: &[u8],
@@ -147,29 +132,27 @@ pub fn shown_at(
     drive: usize,
     zone: usize,
     s: usize,
-) -> usize
+) -> Option<usize>
     requires p_value { in_range p ≡ true }
     requires pointers_len { (length pointers.now ≡ pointers_len p) × (length compact.now ≡ compact_len p) }
     requires drive_lt_n { (drive < p.N) × (zone < p.Z) × (s < p.S) }
     ensures by_index { (off : List ℕ) (im : List ℕ)
         → length im ≡ image_len p
-        → result ≡ first_or p.S (shown_at p (view_of p off im pointers.now) compact.now drive zone s) }
+        → unwrap_or result p.S ≡ first_or p.S (shown_at p (view_of p off im pointers.now) compact.now drive zone s) }
     ensures by_index_2 { (off : List ℕ) (im : List ℕ)
         → length im ≡ image_len p
-        → eqb result p.S ≡ is_nil (shown_at p (view_of p off im pointers.now) compact.now drive zone s) }
-    ensures upper_bound { result ≤ p.S }
+        → is_none result ≡ is_nil (shown_at p (view_of p off im pointers.now) compact.now drive zone s) }
+    ensures upper_bound { IfSome result (λ o. o < p.S) }
 {
     let pointer = disk_zones::pointer(p, pointers, drive, zone) as usize;
     let row = disk_shape::compact_at(p, drive, zone, 0);
     let entry = disk_shape::compact_entry(p, s);
     let first = disk_shape::group(p, s) * p.G;
     let end = group_end(p, pointer, first);
-    let mut o = first;
-    while o < end {
+    for o in first..end {
         if compact[row + o] == entry {
-            return o;
+            return Some(o);
         }
-        o += 1;
     }
-    p.S
+    None
 }

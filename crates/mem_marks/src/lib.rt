@@ -7,16 +7,12 @@ ghost use Rattle.spec.specs.Lists.{up_from, keep};
 ghost use Rattle.mem_marks.specs.Marks.{is_marked, with_mark, is_pointed, Marks};
 ghost use Rattle.mem_tables.specs.Tables.{is_within, count_places};
 
-use spec::Place;
-
 // Marks number k.
 fn add_mark(marks: &mut [u8], k: usize)
     requires { k / 8 < length marks.old }
     ensures { marks.new ≡ with_mark marks.old k }
 {
-    let i = k / 8;
-    let m = marks[i];
-    marks[i] = bits_masks::with_drive(m, k % 8);
+    marks[k / 8] = bits_masks::with_drive(marks[k / 8], k % 8);
 }
 
 // Whether number k is marked.
@@ -24,14 +20,7 @@ pub fn is_marked(marks: &[u8], k: usize) -> bool
     requires { k / 8 < length marks.now }
     ensures { result ≡ is_marked marks.now k }
 {
-    let m = marks[k / 8];
-    bits_masks::has_drive(m, k % 8)
-}
-
-fn whole(place: Place) -> usize
-    ensures { result ≡ place.0 }
-{
-    place.0 as usize
+    bits_masks::has_drive(marks[k / 8], k % 8)
 }
 
 // Marks a place that lies from first up to end, counted from first. 1 where it lies at end or above, and is not never written.
@@ -58,11 +47,9 @@ fn mark_places(addresses: &[u8], n: usize, marks: &mut [u8], first: usize, end: 
     ensures value { result ≡ count_places addresses.now n end 4294967295 }
 {
     let mut k = 0;
-    let mut a = 0;
-    while a < n {
-        let q = whole(mem_tables::place_at(addresses, a));
+    for a in 0..n {
+        let q = mem_tables::place_at(addresses, a).0 as usize;
         k += mark_place(marks, first, end, q);
-        a += 1;
     }
     k
 }
@@ -85,12 +72,10 @@ fn count_few(marks: &[u8], lo: usize, hi: usize) -> usize
     ensures { (result ≡ length (keep (is_marked marks.now) (up_from lo (hi - lo)))) × (result ≤ hi - lo) }
 {
     let mut n = 0;
-    let mut k = lo;
-    while k < hi {
+    for k in lo..hi {
         if is_marked(marks, k) {
             n += 1;
         }
-        k += 1;
     }
     n
 }
@@ -101,11 +86,8 @@ fn count_bytes(marks: &[u8], a: usize, b: usize) -> usize
     ensures { (result ≡ length (keep (is_marked marks.now) (up_from (8 * a) (8 * b - 8 * a)))) × (result ≤ 8 * b - 8 * a) }
 {
     let mut n = 0;
-    let mut i = a;
-    while i < b {
-        let m = marks[i];
-        n += bits_masks::count(m);
-        i += 1;
+    for i in a..b {
+        n += bits_masks::count(marks[i]);
     }
     n
 }
@@ -151,6 +133,7 @@ pub fn next_marked(marks: &[u8], k: usize, end: usize) -> usize
     ensures { (k ≤ result) × (result ≤ end) × ((j : ℕ) → k ≤ j → j < result → is_marked marks.now j ≡ false) × (result < end → is_marked marks.now result ≡ true) }
 {
     let mut i = k;
+    // Stays: a turn goes on by one number or by the rest of a byte without marks, and no range has such steps.
     while i < end {
         if is_marked(marks, i) {
             return i;

@@ -1,7 +1,8 @@
 // A stripe in flight by value, and what a call changes in the state: the numbers in front of its arrays, and one eighth of them (01, Write; Landing).
 #![tactic(auto)]
 
-ghost use Rattle.std.specs.Prelude.{◌≡◌};
+ghost use Rattle.std.specs.Prelude.{◌≡◌, not, ◌<◌, eqb, get_or, length};
+ghost use Rattle.spec.specs.Lists.{below, keep};
 ghost use Rattle.mem_rows.specs.Rows.{no_row, front_of, kept_as};
 
 use spec::{Answer, Serial, Stamp, State};
@@ -91,4 +92,27 @@ pub fn kept(answer: Answer, f: Front) -> Change
         slot: 8,
         row,
     }
+}
+
+// ---- how many data positions are filled, eighth by eighth
+
+// Eighth i has none filled.
+pub fn is_free(filled: [u8; 8], i: usize) -> bool
+    requires { i < 8 }
+    ensures { result ≡ eqb (get_or filled i 0) 0 }
+{
+    filled[i] == 0
+}
+
+// How many eighths have some: as many stripes are in flight.
+pub fn in_flight(filled: [u8; 8]) -> usize
+    ensures { result ≡ length (keep (λ k. not (eqb (get_or filled k 0) 0)) (below 8)) }
+{
+    let mut n = 0;
+    for i in 0..8 {
+        if !is_free(filled, i) {
+            n += 1;
+        }
+    }
+    n
 }

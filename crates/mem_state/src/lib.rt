@@ -9,34 +9,13 @@ ghost use Rattle.spec.specs.Landing.{slot_of};
 
 use spec::{Address, Serial, Stamp, State};
 
-fn wide(b: u8) -> usize
-    ensures { result ≡ b }
-{
-    b as usize
-}
-
-fn whole(n: u32) -> usize
-    ensures { result ≡ n }
-{
-    n as usize
-}
-
 // ---- questions about eighth i
 
 pub fn stripe_in(state: State, i: usize) -> usize
     requires { i < 8 }
     ensures { result ≡ stripe_in state i }
 {
-    let numbers = state.numbers;
-    whole(numbers[i])
-}
-
-pub fn is_free(state: State, i: usize) -> bool
-    requires { i < 8 }
-    ensures { result ≡ is_free state i }
-{
-    let filled = state.filled;
-    filled[i] == 0
+    state.numbers[i] as usize
 }
 
 // ---- questions about all eighths
@@ -45,15 +24,7 @@ pub fn is_free(state: State, i: usize) -> bool
 pub fn in_flight(state: State) -> usize
     ensures { result ≡ length (in_flight state) }
 {
-    let mut n = 0;
-    let mut i = 0;
-    while i < 8 {
-        if !is_free(state, i) {
-            n += 1;
-        }
-        i += 1;
-    }
-    n
+    mem_rows::in_flight(state.filled)
 }
 
 // Eighth i holds the stripe.
@@ -61,22 +32,17 @@ fn is_stripe(state: State, i: usize, stripe: usize) -> bool
     requires { i < 8 }
     ensures { result ≡ (not (is_free state i) && eqb (stripe_in state i) stripe) }
 {
-    if is_free(state, i) {
-        return false;
-    }
-    stripe_in(state, i) == stripe
+    !mem_rows::is_free(state.filled, i) & (stripe_in(state, i) == stripe)
 }
 
 // 01, Landing: the eighth of a stripe in flight; 8 if it is not.
 pub fn slot_of(state: State, stripe: usize) -> usize
     ensures { result ≡ slot_of state stripe }
 {
-    let mut i = 0;
-    while i < 8 {
+    for i in 0..8 {
         if is_stripe(state, i, stripe) {
             return i;
         }
-        i += 1;
     }
     8
 }
@@ -84,6 +50,7 @@ pub fn slot_of(state: State, stripe: usize) -> usize
 // ---- questions to the state's bytes
 
 // Cell j has the address with the stamp.
+#[tactic(auto, using(mem_codec::specs::Codec::state_len_lem))]
 fn is_cell(bytes: &[u8], j: usize, address: Address, stamp: Stamp) -> bool
     requires { (length bytes.now ≡ state_len) × (j < 64) }
     ensures { result ≡ has_at (state_of bytes.now) address.0 stamp.0 j }
@@ -97,20 +64,19 @@ fn is_cell(bytes: &[u8], j: usize, address: Address, stamp: Stamp) -> bool
 }
 
 // Eighth i holds the address with the stamp.
+#[tactic(auto, using(mem_codec::specs::Codec::state_len_lem))]
 fn is_held(bytes: &[u8], i: usize, address: Address, stamp: Stamp) -> bool
     requires { (length bytes.now ≡ state_len) × (i < 8) }
     ensures { result ≡ held_in_of (state_of bytes.now) address.0 stamp.0 i }
 {
-    let f = wide(bytes[mem_codec::FILLED_AT + i]);
-    let mut k = 0;
-    while k < 8 {
+    let f = bytes[mem_codec::FILLED_AT + i] as usize;
+    for k in 0..8 {
         if f <= k {
             return false;
         }
         if is_cell(bytes, 8 * i + k, address, stamp) {
             return true;
         }
-        k += 1;
     }
     false
 }
@@ -120,12 +86,10 @@ pub fn holds(bytes: &[u8], address: Address, stamp: Stamp) -> bool
     requires { length bytes.now ≡ state_len }
     ensures { result ≡ holds (state_of bytes.now) address.0 stamp.0 }
 {
-    let mut i = 0;
-    while i < 8 {
+    for i in 0..8 {
         if is_held(bytes, i, address, stamp) {
             return true;
         }
-        i += 1;
     }
     false
 }

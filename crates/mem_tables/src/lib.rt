@@ -24,16 +24,6 @@ pub fn set_place(table: &mut [u8], a: usize, q: Place)
     bits_be::write_be32(table, 4 * a, q.0);
 }
 
-// How far hi lies above lo.
-fn span_of(lo: u32, hi: u32) -> u32
-    ensures { result ≡ hi - lo }
-{
-    if hi < lo {
-        return 0;
-    }
-    hi - lo
-}
-
 // 1 where q lies less than span above lo, without a branch.
 fn is_near(q: u32, lo: u32, hi: u32, span: u32) -> usize
     requires { span ≡ hi - lo }
@@ -49,28 +39,25 @@ pub fn count_places(table: &[u8], n: usize, lo: Place, hi: Place) -> usize
 {
     let first = lo.0;
     let end = hi.0;
-    let span = span_of(first, end);
+    let span = end.saturating_sub(first);
     let mut k = 0;
-    let mut a = 0;
-    while a < n {
+    for a in 0..n {
         k += is_near(bits_be::read_be32(table, 4 * a), first, end, span);
-        a += 1;
     }
     k
 }
 
 // The lowest of the first n addresses whose place is q; n if there is none.
+// Stays: `find_place` of specs/ gives that number, and so does its one caller, the C function `leaf_find`.
 pub fn find_place(table: &[u8], n: usize, q: Place) -> usize
     requires { 4 * n ≤ length table.now }
     ensures { result ≡ find_place table.now n q.0 }
 {
     let wanted = q.0;
-    let mut a = 0;
-    while a < n {
+    for a in 0..n {
         if bits_be::read_be32(table, 4 * a) == wanted {
             return a;
         }
-        a += 1;
     }
-    a
+    n
 }

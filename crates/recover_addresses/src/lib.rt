@@ -41,7 +41,7 @@ fn add_stamp(
         return t;
     }
     let zone = disk_shape::zone_on(p, segment, drive);
-    let o = mem_lookup::shown_at(p, pointers, compact, drive, zone, s);
+    let o = mem_lookup::shown_at(p, pointers, compact, drive, zone, s).unwrap();
     let r = disk_stored::record_in(p, image, full, drive, zone, o);
     Stamp(t.0 ^ r.stamp.0)
 }
@@ -65,12 +65,10 @@ fn lost_stamp(
         (present p gone)) }
 {
     let mut t = Stamp(0);
-    let mut d = 0;
-    while d < p.N {
+    for d in 0..p.N {
         t = add_stamp(
             p, image, pointers, offline, compact, gone, full, d, segment, s, t,
         );
-        d += 1;
     }
     t
 }

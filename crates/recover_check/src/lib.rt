@@ -1,18 +1,18 @@
 // Refusal 9 of restart and rebuild, and what is counted on the way (01, Refusals; Restart, 4; 02, item 4).
 #![tactic(auto)]
 
+ghost use Rattle.disk_drives.specs.Viewed.{viewed};
 ghost use Rattle.std.specs.Prelude.{◌≡◌, true, false, ◌+◌, ◌<◌, leb, length};
-ghost use Rattle.spec.specs.Drives.{view_of, mk_disk, sealed_in};
+ghost use Rattle.spec.specs.Drives.{sealed_in};
 ghost use Rattle.spec.specs.Faults.{serial_twice};
-ghost use Rattle.spec.specs.Params.{in_range, offline_len};
 ghost use Rattle.spec.specs.Segments.{remaining, segment_of, segments, unsealed};
-ghost use Rattle.law_views.specs.Views.{Whole};
 ghost use Rattle.law_drives.specs.Members.{In};
 ghost use Rattle.law_drives.specs.Segs.{Here};
 ghost use Rattle.disk_gather.specs.Flags.{Keeps, Serials, FlagsRows};
 ghost use Rattle.recover_headers.specs.Names.{NameCounts};
 ghost use Rattle.recover_check.specs.Faults.{Examined, Arrays, front_fault, faulty, ExamSays, added};
 
+use disk_drives::Drives;
 use recover_survey::Tally;
 use spec::{Params, Seg, Serial};
 
@@ -34,10 +34,7 @@ pub struct Exam {
 
 // 01, Refusals, 9: a remaining segment but for its records; repeated: a present drive bears its serial twice; many: two or more segments are unsealed.
 fn segment_fault(
-    p: Params,
-    image: &[u8],
-    pointers: &[u8],
-    offline: &[u8],
+    drives: &Drives<'_>,
     gone: u8,
     counts: &[u8],
     segment: Seg,
@@ -46,21 +43,29 @@ fn segment_fault(
     full: bool,
     many: bool,
 ) -> bool
-    requires p_value { in_range p ≡ true }
-    requires whole { Whole p (mk_disk image.now pointers.now) × (length offline.now ≡ offline_len p) × Here p gone }
-    requires name_counts { NameCounts p (view_of p offline.now image.now pointers.now) gone counts.now
-        × In segment (remaining p (view_of p offline.now image.now pointers.now) gone)
-        × (serial.0 ≡ (segment_of p (view_of p offline.now image.now pointers.now) gone segment).serial)
+    requires here { Here drives.now.p gone }
+    requires name_counts { NameCounts drives.now.p (viewed drives.now) gone counts.now
+        × In segment (remaining drives.now.p (viewed drives.now) gone)
+        × (serial.0 ≡ (segment_of drives.now.p (viewed drives.now) gone segment).serial)
         × (repeated
-        ≡ serial_twice p (view_of p offline.now image.now pointers.now) gone (segment_of p (view_of p offline.now image.now pointers.now) gone segment)) }
-    requires full_value { (full ≡ sealed_in p (view_of p offline.now image.now pointers.now) gone segment)
-        × (many ≡ leb 2 (length (unsealed (segments p (view_of p offline.now image.now pointers.now) gone)))) }
+        ≡ serial_twice drives.now.p (viewed drives.now) gone (segment_of drives.now.p (viewed drives.now) gone segment)) }
+    requires full_value { (full ≡ sealed_in drives.now.p (viewed drives.now) gone segment)
+        × (many ≡ leb 2 (length (unsealed (segments drives.now.p (viewed drives.now) gone)))) }
     ensures { result
-        ≡ front_fault p (view_of p offline.now image.now pointers.now) gone
-        (segments p (view_of p offline.now image.now pointers.now) gone)
-        (segment_of p (view_of p offline.now image.now pointers.now) gone segment) }
+        ≡ front_fault drives.now.p (viewed drives.now) gone
+        (segments drives.now.p (viewed drives.now) gone)
+        (segment_of drives.now.p (viewed drives.now) gone segment) }
 {
-    if recover_headers::front_fault(p, image, offline, gone, counts, segment, serial, repeated) {
+    if recover_headers::front_fault(
+        drives.p,
+        drives.image,
+        drives.offline,
+        gone,
+        counts,
+        segment,
+        serial,
+        repeated,
+    ) {
         return true;
     }
     if full {
@@ -69,7 +74,7 @@ fn segment_fault(
     if many {
         return true;
     }
-    recover_headers::footer_fault(p, image, pointers, gone, segment)
+    recover_headers::footer_fault(drives.p, drives.image, drives.pointers, gone, segment)
 }
 
 // The zone is bad.
@@ -112,10 +117,7 @@ fn exam_good(e: Exam, full: bool, t: Tally) -> Exam
 
 // One zone of the lowest present drive; where no segment remains nothing is looked at; at is room for the index of a group.
 fn exam_segment(
-    p: Params,
-    image: &[u8],
-    pointers: &[u8],
-    offline: &[u8],
+    drives: &Drives<'_>,
     gone: u8,
     kept: &[bool],
     serials: &[u64],
@@ -127,29 +129,35 @@ fn exam_segment(
     at: &mut [u16],
     e: Exam,
 ) -> Exam
-    requires p_value { in_range p ≡ true }
-    requires whole { Whole p (mk_disk image.now pointers.now) × (length offline.now ≡ offline_len p) }
-    requires arrays { Arrays p (view_of p offline.now image.now pointers.now) gone kept.now serials.now rows.now repeats.now counts.now }
-    requires z_lt_z { (z < p.Z)
-        × (many ≡ leb 2 (length (unsealed (segments p (view_of p offline.now image.now pointers.now) gone))))
-        × ExamSays p (view_of p offline.now image.now pointers.now) gone z e
+    requires arrays { Arrays drives.now.p (viewed drives.now) gone kept.now serials.now rows.now repeats.now counts.now }
+    requires z_lt_z { (z < drives.now.p.Z)
+        × (many ≡ leb 2 (length (unsealed (segments drives.now.p (viewed drives.now) gone))))
+        × ExamSays drives.now.p (viewed drives.now) gone z e
         × (length at.old ≡ 2048) }
-    ensures zone_value { faulty p (view_of p offline.now image.now pointers.now) gone z ≡ true → result.zone ≡ z }
-    ensures exam_says { faulty p (view_of p offline.now image.now pointers.now) gone z ≡ false
-        → ExamSays p (view_of p offline.now image.now pointers.now) gone (z + 1) result }
+    ensures zone_value { faulty drives.now.p (viewed drives.now) gone z ≡ true → result.zone ≡ z }
+    ensures exam_says { faulty drives.now.p (viewed drives.now) gone z ≡ false
+        → ExamSays drives.now.p (viewed drives.now) gone (z + 1) result }
 {
     if !kept[z] {
         return e;
     }
     let segment = disk_gather::row(rows, z);
     let serial = Serial(serials[z]);
-    let full = disk_zones::is_sealed(p, pointers, gone, segment);
+    let full = disk_zones::is_sealed(drives.p, drives.pointers, gone, segment);
     if segment_fault(
-        p, image, pointers, offline, gone, counts, segment, serial, repeats[z], full, many,
+        drives, gone, counts, segment, serial, repeats[z], full, many,
     ) {
         return exam_bad(e, z);
     }
-    let t = recover_survey::survey(p, image, pointers, gone, segment, full, at);
+    let t = recover_survey::survey(
+        drives.p,
+        drives.image,
+        drives.pointers,
+        gone,
+        segment,
+        full,
+        at,
+    );
     if t.bad {
         return exam_bad(e, z);
     }
@@ -158,10 +166,7 @@ fn exam_segment(
 
 // All zones of the lowest present drive.
 fn exam_segments(
-    p: Params,
-    image: &[u8],
-    pointers: &[u8],
-    offline: &[u8],
+    drives: &Drives<'_>,
     gone: u8,
     kept: &[bool],
     serials: &[u64],
@@ -171,60 +176,46 @@ fn exam_segments(
     many: bool,
     at: &mut [u16],
 ) -> Exam
-    requires p_value { in_range p ≡ true }
-    requires whole { Whole p (mk_disk image.now pointers.now) × (length offline.now ≡ offline_len p) }
-    requires arrays { Arrays p (view_of p offline.now image.now pointers.now) gone kept.now serials.now rows.now repeats.now counts.now }
-    requires many_value { (many ≡ leb 2 (length (unsealed (segments p (view_of p offline.now image.now pointers.now) gone)))) × (length at.old ≡ 2048) }
-    ensures { Examined p (view_of p offline.now image.now pointers.now) gone
-        (segments p (view_of p offline.now image.now pointers.now) gone) result }
+    requires arrays { Arrays drives.now.p (viewed drives.now) gone kept.now serials.now rows.now repeats.now counts.now }
+    requires many_value { (many ≡ leb 2 (length (unsealed (segments drives.now.p (viewed drives.now) gone)))) × (length at.old ≡ 2048) }
+    ensures { Examined drives.now.p (viewed drives.now) gone
+        (segments drives.now.p (viewed drives.now) gone) result }
 {
     let mut e = Exam {
-        zone: p.Z,
+        zone: drives.p.Z,
         loose: 0,
         counted: 0,
         top: 0,
         part: 0,
     };
-    let mut z = 0;
-    while z < p.Z {
+    for z in 0..drives.p.Z {
         e = exam_segment(
-            p, image, pointers, offline, gone, kept, serials, rows, repeats, counts, z, many, at, e,
+            drives, gone, kept, serials, rows, repeats, counts, z, many, at, e,
         );
-        if e.zone < p.Z {
+        if e.zone < drives.p.Z {
             return e;
         }
-        z += 1;
     }
     e
 }
 
 // 01, Refusals, 9; 02, item 4: the lowest zone on the lowest present drive of a remaining segment with a fault, with what is counted on the way. The names in
 // headers are counted, and the serials that a drive bears twice are looked for, once for all segments; the room for the index of a group is cleared once.
-pub fn examine(
-    p: Params,
-    image: &[u8],
-    pointers: &[u8],
-    offline: &[u8],
-    gone: u8,
-    kept: &[bool],
-    serials: &[u64],
-    rows: &[u32],
-) -> Exam
-    requires p_value { in_range p ≡ true }
-    requires whole { Whole p (mk_disk image.now pointers.now) × (length offline.now ≡ offline_len p) × Here p gone }
-    requires keeps { Keeps p (view_of p offline.now image.now pointers.now) gone kept.now
-        × Serials p (view_of p offline.now image.now pointers.now) gone serials.now
-        × FlagsRows p (view_of p offline.now image.now pointers.now) gone rows.now }
-    ensures { Examined p (view_of p offline.now image.now pointers.now) gone
-        (segments p (view_of p offline.now image.now pointers.now) gone) result }
+pub fn examine(drives: &Drives<'_>, gone: u8, kept: &[bool], serials: &[u64], rows: &[u32]) -> Exam
+    requires here { Here drives.now.p gone }
+    requires keeps { Keeps drives.now.p (viewed drives.now) gone kept.now
+        × Serials drives.now.p (viewed drives.now) gone serials.now
+        × FlagsRows drives.now.p (viewed drives.now) gone rows.now }
+    ensures { Examined drives.now.p (viewed drives.now) gone
+        (segments drives.now.p (viewed drives.now) gone) result }
 {
-    let many = 2 <= recover_segments::unsealed_count(p, pointers, gone, kept, rows);
+    let many = 2 <= recover_segments::unsealed_count(drives.p, drives.pointers, gone, kept, rows);
     let mut repeats = [false; MOST];
-    disk_gather::repeats(p, image, pointers, offline, gone, &mut repeats);
+    disk_gather::repeats(drives, gone, &mut repeats);
     let mut counts = [0u8; ZONES];
-    recover_headers::name_counts(p, image, gone, kept, &mut counts);
+    recover_headers::name_counts(drives.p, drives.image, gone, kept, &mut counts);
     let mut at = [0u16; 2048];
     exam_segments(
-        p, image, pointers, offline, gone, kept, serials, rows, &repeats, &counts, many, &mut at,
+        drives, gone, kept, serials, rows, &repeats, &counts, many, &mut at,
     )
 }

@@ -62,12 +62,10 @@ fn entries(
         (map (entry_said p full (zone_at (view_of p off image.now ps) drive zone)) (below n)) }
 {
     let mut base = 0;
-    let mut o = 0;
-    while o < n {
+    for o in 0..n {
         let r = disk_stored::record_in(p, image, full, drive, zone, o);
         base = base_at(p, base, o);
         compact[row + o] = entry_near(p, base, r.stripe as usize);
-        o += 1;
     }
 }
 
@@ -139,9 +137,7 @@ pub fn rows(p: Params, image: &[u8], pointers: &[u8], compact: &mut [u8], gone: 
     ensures fact { Else p gone segment compact.old compact.new }
 {
     let full = disk_zones::is_sealed(p, pointers, gone, segment);
-    let mut d = 0;
-    while d < p.N {
+    for d in 0..p.N {
         row_any(p, image, pointers, compact, gone, full, d, segment);
-        d += 1;
     }
 }

@@ -1,5 +1,5 @@
 -- The lost chunks of a group, and of all groups (01, Rebuild; Restart, 3). Assumes nothing.
-use Rattle.std.specs.Prelude.{◌≡◌, List, [], ◌∷◌, ◌++◌, Bool, true, false, cond, ℕ, ◌+◌, ◌-◌, ◌%◌, ◌≤◌, ◌<◌, length}
+use Rattle.std.specs.Prelude.{Result, Ok, ◌≡◌, List, [], ◌∷◌, ◌++◌, Bool, true, false, cond, ℕ, ◌+◌, ◌-◌, ◌%◌, ◌≤◌, ◌<◌, length}
 use Rattle.std.proofs.Math.Path.{refl, ap}
 use Rattle.std.proofs.Common.{sym, ◌∙◌, subst, arith}
 use Rattle.std.proofs.Math.Nat.{zero-mod, add-mod_right}
@@ -21,8 +21,8 @@ use Rattle.law_drives.specs.Frame.{Agree, same_sealed}
 use Rattle.law_drives.specs.Segs.{Here, seg_is, piece_rec}
 use Rattle.recover_reset.specs.Lost.{lost-start, lost_store, lost_stores, lost_none, lost-append, lost_hit, lost-step, lost_end, lost_apart, same_lost}
 use Rattle.recover_drop.specs.Going.{going_first}
-use Rattle.disk_zones.specs.declared.Made.{Made}
-use Rattle.disk_zones.specs.Made.{Storing}
+use Rattle.disk_zones.specs.declared.TooFew.{TooFew}
+use Rattle.disk_zones.specs.Made.{too_few, Storing}
 use Rattle.recover_groups.specs.declared.Group.{Group}
 use Rattle.recover_groups.specs.Bases.{stripes_step}
 use Rattle.recover_groups.specs.Groups.{group_len, recs_bad, recs_fault, Indexed, segment_in, GroupReads}
@@ -112,7 +112,7 @@ module _ (p : Params) (off : List ℕ) (w : Group) (d n : ℕ) (k₀ : Disk) whe
         (lost-start p w.gone d group_found w.base (group_len p w.base)) (moving_start p off w.gone n group_stores k₀ wh f);
   }
 
-  pub stripes_done : (k left : ℕ) (x : Disk) → Stripes k left x → group_len p w.base ≤ k → Storing p n group_stores k₀ (record { left = left; cut = false }) x
+  pub stripes_done : (k left : ℕ) (x : Disk) → Stripes k left x → group_len p w.base ≤ k → Storing p n group_stores k₀ (Ok left) x
   stripes_done k left x s h = moving_done p off w.gone n group_stores k₀ left x
       (moving_as p off w.gone n group_stores k₀ (lost_stores p w.gone d group_found (up_from (w.base + k) (group_len p w.base - k))) [] left x
       (lost_end p w.gone d group_found w.base k (group_len p w.base) h) s.moving)
@@ -146,21 +146,21 @@ module _ (p : Params) (r : Ranged p) (off : List ℕ) (w : Group) (d n : ℕ) (k
       x.pointers w at refl refl refl refl
       s.moving.going.whole.pointers_long rd
 
-  module _ (m : Made) (x' : Disk) (t : Storing p left (lost_stores p w.gone d now! ((w.base + k) ∷ [])) x m x') where
-    stripe_stored : Storing p left (lost_stores p w.gone d (group_found p off w d n k₀) ((w.base + k) ∷ [])) x m x'
-    stripe_stored = subst (λ (l : List Store). Storing p left l x m x') lost_stripe_same t
+  stripe_stored : (m : Result ℕ TooFew) (x' : Disk) → Storing p left (lost_stores p w.gone d now! ((w.base + k) ∷ [])) x m x'
+      → Storing p left (lost_stores p w.gone d (group_found p off w d n k₀) ((w.base + k) ∷ [])) x m x'
+  stripe_stored m x' t = subst (λ (l : List Store). Storing p left l x m x') lost_stripe_same t
 
-    pub stripes_cut : m.cut ≡ true → Storing p n (group_stores p off w d n k₀) k₀ m x'
-    stripes_cut c = moving_cut p off w.gone n (group_stores p off w d n k₀) k₀ (lost_stores p w.gone d (group_found p off w d n k₀) ((w.base + k) ∷ []))
-        (lost_stores p w.gone d (group_found p off w d n k₀) (up_from (w.base + (k + 1)) (len - (k + 1)))) left x m x' stripe_step stripe_stored c
+  pub stripes_cut : (x' : Disk) → Storing p left (lost_stores p w.gone d now! ((w.base + k) ∷ [])) x too_few x' → Storing p n (group_stores p off w d n k₀) k₀ too_few x'
+  stripes_cut x' t = moving_cut p off w.gone n (group_stores p off w d n k₀) k₀ (lost_stores p w.gone d (group_found p off w d n k₀) ((w.base + k) ∷ []))
+      (lost_stores p w.gone d (group_found p off w d n k₀) (up_from (w.base + (k + 1)) (len - (k + 1)))) left x stripe_step x' (stripe_stored too_few x' t)
 
-    pub stripes_turn : m.cut ≡ false → Stripes p off w d n k₀ (k + 1) m.left x'
-    stripes_turn c = record {
-      upto = omega arith;
-      moving = moving_turn p off w.gone n (group_stores p off w d n k₀) k₀ (lost_stores p w.gone d (group_found p off w d n k₀) ((w.base + k) ∷ []))
-          (lost_stores p w.gone d (group_found p off w d n k₀) (up_from (w.base + (k + 1)) (len - (k + 1)))) left x m x' stripe_step stripe_stored r d la.lost
-          (lost_on p w.gone d (group_found p off w d n k₀) ((w.base + k) ∷ [])) c;
-    }
+  pub stripes_turn : (y : ℕ) (x' : Disk) → Storing p left (lost_stores p w.gone d now! ((w.base + k) ∷ [])) x (Ok y) x' → Stripes p off w d n k₀ (k + 1) y x'
+  stripes_turn y x' t = record {
+    upto = omega arith;
+    moving = moving_turn p off w.gone n (group_stores p off w d n k₀) k₀ (lost_stores p w.gone d (group_found p off w d n k₀) ((w.base + k) ∷ []))
+        (lost_stores p w.gone d (group_found p off w d n k₀) (up_from (w.base + (k + 1)) (len - (k + 1)))) left x stripe_step y x' (stripe_stored (Ok y) x' t) r d la.lost
+        (lost_on p w.gone d (group_found p off w d n k₀) ((w.base + k) ∷ []));
+  }
 
 -- ---- the loop over the groups
 
@@ -184,7 +184,7 @@ module _ (p : Params) (off : List ℕ) (gone : ℕ) (sgm : Seg) (d n : ℕ) (k�
         (moving_start p off gone n all_stores k₀ wh f);
   }
 
-  pub groups_done : (base left : ℕ) (x : Disk) → Groups base left x → p.S ≤ base → Storing p n all_stores k₀ (record { left = left; cut = false }) x
+  pub groups_done : (base left : ℕ) (x : Disk) → Groups base left x → p.S ≤ base → Storing p n all_stores k₀ (Ok left) x
   groups_done base left x s h = moving_done p off gone n all_stores k₀ left x
       (moving_as p off gone n all_stores k₀ (lost_stores p gone d (seg_now k₀) (up_from base (p.S - base))) [] left x
       (ap (lost_stores p gone d (seg_now k₀)) (up_from_end base p.S h) ∙ lost_none p gone d (seg_now k₀)) s.moving)
@@ -219,15 +219,15 @@ module _ (p : Params) (r : Ranged p) (off : List ℕ) (gone : ℕ) (sgm : Seg) (
   pub groups_sound : recs_fault p gone ours ≡ false → recs_fault p gone theirs ≡ false
   groups_sound e = sym (same_recs_fault p gone (seen p off k₀) (seen p off x) la.here s.moving.agree (moving_list p off k₀ x) sgm hz) ∙ e
 
-  module _ (m : Made) (x' : Disk) (t : Storing p left (part! theirs) x m x') where
-    this! : Storing p left (part! ours) x m x'
-    this! = subst (λ (l : List Store). Storing p left l x m x') same! t
+  this! : (m : Result ℕ TooFew) (x' : Disk) → Storing p left (part! theirs) x m x' → Storing p left (part! ours) x m x'
+  this! m x' t = subst (λ (l : List Store). Storing p left l x m x') same! t
 
-    pub groups_cut : m.cut ≡ true → Storing p n (all_stores p off gone sgm d n k₀) k₀ m x'
-    groups_cut c = moving_cut p off gone n (all_stores p off gone sgm d n k₀) k₀ (part! ours) rest! left x m x' step! this! c
+  pub groups_cut : (x' : Disk) → Storing p left (part! theirs) x too_few x' → Storing p n (all_stores p off gone sgm d n k₀) k₀ too_few x'
+  groups_cut x' t = moving_cut p off gone n (all_stores p off gone sgm d n k₀) k₀ (part! ours) rest! left x step! x' (this! too_few x' t)
 
-    pub groups_turn : m.cut ≡ false → Groups p off gone sgm d n k₀ (base + p.G) m.left x'
-    groups_turn c = record {
-      first = add-mod_right base p.G ∙ s.first;
-      moving = moving_turn p off gone n (all_stores p off gone sgm d n k₀) k₀ (part! ours) rest! left x m x' step! this! r d la.lost (lost_on p gone d ours (up_from base (group_len p base))) c;
-    }
+  pub groups_turn : (y : ℕ) (x' : Disk) → Storing p left (part! theirs) x (Ok y) x' → Groups p off gone sgm d n k₀ (base + p.G) y x'
+  groups_turn y x' t = record {
+    first = add-mod_right base p.G ∙ s.first;
+    moving = moving_turn p off gone n (all_stores p off gone sgm d n k₀) k₀ (part! ours) rest! left x step! y x' (this! (Ok y) x' t) r d la.lost
+        (lost_on p gone d ours (up_from base (group_len p base)));
+  }

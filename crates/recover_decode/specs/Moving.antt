@@ -1,5 +1,5 @@
 -- Stores on a missing drive, in parts: what is left to do fits, and the present drives stay as they came (01, Rebuild; Store count). Assumes nothing.
-use Rattle.std.specs.Prelude.{◌≡◌, refl, List, [], ◌++◌, true, false, ◌&&◌, ℕ, ◌<◌, eqb}
+use Rattle.std.specs.Prelude.{◌≡◌, refl, List, [], ◌++◌, Ok, true, false, ◌&&◌, ℕ, ◌<◌, eqb}
 use Rattle.std.proofs.Common.{sym, ◌∙◌, subst, ne_eqb}
 use Rattle.spec.specs.declared.Params.{Params}
 use Rattle.spec.specs.Drives.{Store, Disk}
@@ -15,8 +15,7 @@ use Rattle.law_drives.specs.Segs.{Here}
 use Rattle.law_drives.specs.Tests.{clash, and_false_left}
 use Rattle.law_drives.specs.Zones.{hits}
 use Rattle.recover_drop.specs.Going.{owes_cut, owes_done, Going, going_start, going_turn, going_kept}
-use Rattle.disk_zones.specs.declared.Made.{Made}
-use Rattle.disk_zones.specs.Made.{Storing}
+use Rattle.disk_zones.specs.Made.{too_few, Storing}
 
 -- the drive is one of the missing ones, and some drive is present
 pub record Lacks (p : Params) (gone d : ℕ) : Type 0 where
@@ -47,24 +46,24 @@ pub moving_as : (p : Params) (off : List ℕ) (gone n : ℕ) (ss : List Store) (
     → Moving p off gone n ss k₀ us left k
 moving_as p off gone n ss k₀ ts us left k e g = subst (λ (l : List Store). Moving p off gone n ss k₀ l left k) e g
 
-module _ (p : Params) (off : List ℕ) (gone n : ℕ) (ss : List Store) (k₀ : Disk) (ts us : List Store) (left : ℕ) (k : Disk) (m : Made) (k' : Disk)
-    (g : Moving p off gone n ss k₀ (ts ++ us) left k) (s : Storing p left ts k m k') where
+module _ (p : Params) (off : List ℕ) (gone n : ℕ) (ss : List Store) (k₀ : Disk) (ts us : List Store) (left : ℕ) (k : Disk)
+    (g : Moving p off gone n ss k₀ (ts ++ us) left k) where
   -- the number is too small
-  pub moving_cut : m.cut ≡ true → Storing p n ss k₀ m k'
-  moving_cut c = owes_cut p n ss k₀ ts us left k m k' g.going.owes s c
+  pub moving_cut : (k' : Disk) → Storing p left ts k too_few k' → Storing p n ss k₀ too_few k'
+  moving_cut k' s = owes_cut p n ss k₀ ts us left k k' g.going.owes s
 
   -- a part is made
-  pub moving_turn : Ranged p → (d : ℕ) → is_in gone d ≡ true → OnDrive d ts → m.cut ≡ false → Moving p off gone n ss k₀ us m.left k'
-  moving_turn r d lost on c = record {
-    going = going_turn p r off n ss k₀ ts us left k m k' g.going s c;
+  pub moving_turn : (l : ℕ) (k' : Disk) → Storing p left ts k (Ok l) k' → Ranged p → (d : ℕ) → is_in gone d ≡ true → OnDrive d ts → Moving p off gone n ss k₀ us l k'
+  moving_turn l k' s r d lost on = record {
+    going = going_turn p r off n ss k₀ ts us left k l k' g.going s;
     agree = λ e y he hy q.
         g.agree e y he hy q
-        ∙ sym (going_kept p r off n ss k₀ ts us left k m k' g.going s c e y he hy (on e y (ne_eqb d e (λ x. clash (subst (λ (z : ℕ). is_in gone z ≡ true) x lost) q))));
+        ∙ sym (going_kept p r off n ss k₀ ts us left k l k' g.going s e y he hy (on e y (ne_eqb d e (λ x. clash (subst (λ (z : ℕ). is_in gone z ≡ true) x lost) q))));
   }
 
 -- nothing is left
 pub moving_done : (p : Params) (off : List ℕ) (gone n : ℕ) (ss : List Store) (k₀ : Disk) (left : ℕ) (k : Disk) → Moving p off gone n ss k₀ [] left k
-    → Storing p n ss k₀ (record { left = left; cut = false }) k
+    → Storing p n ss k₀ (Ok left) k
 moving_done p off gone n ss k₀ left k g = owes_done p n ss k₀ left k g.going.owes
 
 pub drive_apart : (d e x y : ℕ) → eqb d e ≡ false → (eqb d e && eqb x y) ≡ false

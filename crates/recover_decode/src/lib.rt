@@ -13,7 +13,7 @@ ghost use Rattle.recover_reset.specs.Lost.{lost_store, lost_stores};
 ghost use Rattle.law_views.specs.Views.{Whole, AllFit};
 ghost use Rattle.disk_zones.specs.Made.{Storing};
 
-use disk_zones::Made;
+use disk_zones::TooFew;
 use recover_groups::Group;
 use spec::{Params, Seg};
 
@@ -28,7 +28,7 @@ fn put_lost_with(
     k: usize,
     drive: usize,
     count: u64,
-) -> Made
+) -> Result<u64, TooFew>
     requires p_value { in_range p ≡ true }
     requires whole { Whole p (mk_disk image.old pointers.old) }
     requires lacks { Lacks p w.gone drive }
@@ -63,7 +63,7 @@ fn put_lost(
     k: usize,
     drive: usize,
     count: u64,
-) -> Made
+) -> Result<u64, TooFew>
     requires p_value { in_range p ≡ true }
     requires whole { Whole p (mk_disk image.old pointers.old) }
     requires lacks { Lacks p w.gone drive }
@@ -91,7 +91,7 @@ fn put_if(
     k: usize,
     drive: usize,
     count: u64,
-) -> Made
+) -> Result<u64, TooFew>
     requires p_value { in_range p ≡ true }
     requires whole { Whole p (mk_disk image.old pointers.old) }
     requires lacks { Lacks p w.gone drive }
@@ -105,10 +105,7 @@ fn put_if(
         (mk_disk image.old pointers.old) result (mk_disk image.new pointers.new) }
 {
     if !recover_groups::counts(p, w.gone, at, k) {
-        return Made {
-            left: count,
-            cut: false,
-        };
+        return Ok(count);
     }
     put_lost(p, image, pointers, w, at, k, drive, count)
 }
@@ -122,7 +119,7 @@ fn put_group(
     at: &mut [u16],
     drive: usize,
     count: u64,
-) -> Made
+) -> Result<u64, TooFew>
     requires p_value { in_range p ≡ true }
     requires whole { Whole p (mk_disk image.old pointers.old) }
     requires lacks { Lacks p w.gone drive }
@@ -140,16 +137,10 @@ fn put_group(
     recover_groups::index_group(p, image, pointers, w, at);
     let len = recover_groups::group_len(p, w.base);
     let mut left = count;
-    let mut k = 0;
-    while k < len {
-        let made = put_if(p, image, pointers, w, at, k, drive, left);
-        if made.cut {
-            return made;
-        }
-        left = made.left;
-        k += 1;
+    for k in 0..len {
+        left = put_if(p, image, pointers, w, at, k, drive, left)?;
     }
-    Made { left, cut: false }
+    Ok(left)
 }
 
 // 01, Rebuild: the chunk of each counted stripe of a segment, in rising order; at is room for an index.
@@ -163,7 +154,7 @@ fn put_groups_with(
     full: bool,
     drive: usize,
     count: u64,
-) -> Made
+) -> Result<u64, TooFew>
     requires p_value { in_range p ≡ true }
     requires whole { Whole p (mk_disk image.old pointers.old) }
     requires lacks { Lacks p gone drive }
@@ -177,22 +168,16 @@ fn put_groups_with(
         (mk_disk image.old pointers.old) result (mk_disk image.new pointers.new) }
 {
     let mut left = count;
-    let mut base = 0;
-    while base < p.S {
+    for base in (0..p.S).step_by(p.G) {
         let w = Group {
             gone,
             seg,
             full,
             base,
         };
-        let made = put_group(p, image, pointers, w, at, drive, left);
-        if made.cut {
-            return made;
-        }
-        left = made.left;
-        base += p.G;
+        left = put_group(p, image, pointers, w, at, drive, left)?;
     }
-    Made { left, cut: false }
+    Ok(left)
 }
 
 // 01, Rebuild: the chunk of each counted stripe of a segment, in rising order, under a store count; full: the survivors' zones are full.
@@ -205,7 +190,7 @@ pub fn put_groups(
     full: bool,
     drive: usize,
     count: u64,
-) -> Made
+) -> Result<u64, TooFew>
     requires p_value { in_range p ≡ true }
     requires whole { Whole p (mk_disk image.old pointers.old) }
     requires lacks { Lacks p gone drive }

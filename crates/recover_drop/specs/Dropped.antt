@@ -1,5 +1,5 @@
 -- The zones of dropped segments, number by number: drive after drive (01, Restart, 4; 02, item 4). Assumes nothing.
-use Rattle.std.specs.Prelude.{◌≡◌, ◌&&◌, ◌||◌, get_or}
+use Rattle.std.specs.Prelude.{Result, Ok, ◌≡◌, ◌&&◌, ◌||◌, get_or}
 use Rattle.std.proofs.Math.Path.{refl, sym, ap, ap₂, subst}
 use Rattle.std.proofs.Common.{◌∙◌, inl, inr, div-add-mod', div-lt_iff_lt-mul, mod-lt, arith, eqb-true, eq-eqb, ne_eqb}
 use mathlib.Core.List.{List, [], ◌∷◌, ◌++◌, map}
@@ -31,8 +31,8 @@ use Rattle.law_drives.specs.Tests.{clash, cond_true, cond_false, same_test, and_
 use Rattle.law_drives.specs.Zones.{Sized, sized_store, hits_at_of, zone_store, zone_stored}
 use Rattle.law_restart.specs.Frames.{seen-after}
 use Rattle.law_views.specs.Views.{Whole, AllFit, seen}
-use Rattle.disk_zones.specs.declared.Made.{Made}
-use Rattle.disk_zones.specs.Made.{Storing, storing_all}
+use Rattle.disk_zones.specs.declared.TooFew.{TooFew}
+use Rattle.disk_zones.specs.Made.{too_few, Storing, storing_all}
 use Rattle.recover_drop.specs.Going.{Owes, owes_turn, owes_cut, owes_done}
 use Rattle.recover_drop.specs.Rising.{by_keys, LeastKey, keys_none, keys_first, keys_cong, keep-fewer, keep-rising, rising_members, by_number}
 use Rattle.law_views.specs.Alike.{offline_after}
@@ -503,19 +503,18 @@ module _ (p : Params) (r : Ranged p) (off im : List ℕ) (li : length im ≡ ima
   pub serial_start : (n : ℕ) → SerialLeft p off im ts count ps₀ n 0 count ps₀
   serial_start n = record { within = omega arith; long = l₀; same = λ j _ _. refl; owes = λ m k' h. as! m k' h }
     where
-      as! : (m : Made) (k' : Disk) → Storing p count (map (reset_no p) (keep (bears_no p (view ps₀) ts n) (up_from 0 (p.N * p.Z - 0)))) (at_k ps₀) m k'
+      as! : (m : Result ℕ TooFew) (k' : Disk) → Storing p count (map (reset_no p) (keep (bears_no p (view ps₀) ts n) (up_from 0 (p.N * p.Z - 0)))) (at_k ps₀) m k'
           → Storing p count (serial_drops p (view ps₀) ts n) (at_k ps₀) m k'
       as! m k' h = unfold serial_drops in subst (λ (l : List ℕ). Storing p count (map (reset_no p) (keep (bears_no p (view ps₀) ts n) l)) (at_k ps₀) m k') (sym (below-start (p.N * p.Z))) h
 
   pub serial_done : (n i left : ℕ) (ps : List ℕ) → SerialLeft p off im ts count ps₀ n i left ps → p.N * p.Z ≤ i
-      → Storing p count (serial_drops p (view ps₀) ts n) (at_k ps₀) (record { left = left; cut = false }) (at_k ps)
+      → Storing p count (serial_drops p (view ps₀) ts n) (at_k ps₀) (Ok left) (at_k ps)
   serial_done n i left ps s h =
       owes_done p count (serial_drops p (view ps₀) ts n) (at_k ps₀) left (at_k ps)
       (subst (λ (l : List Store). Owes p count (serial_drops p (view ps₀) ts n) (at_k ps₀) l left (at_k ps))
       (ap (λ (l : List ℕ). map (reset_no p) (keep (bears_no p (view ps₀) ts n) l)) (up_from_end i (p.N * p.Z) h) ∙ ap (map (reset_no p)) (keep_none (bears_no p (view ps₀) ts n))) s.owes)
 
-  module _ (n i left : ℕ) (ps : List ℕ) (s : SerialLeft p off im ts count ps₀ n i left ps) (h : i < p.N * p.Z) (m : Made) (ps' : List ℕ)
-      (t : Storing p left (one_drop p (view ps) ts n i) (at_k ps) m (at_k ps')) where
+  module _ (n i left : ℕ) (ps : List ℕ) (s : SerialLeft p off im ts count ps₀ n i left ps) (h : i < p.N * p.Z) where
     abbrev rest : List Store
     rest = map (reset_no p) (keep (bears_no p (view ps₀) ts n) (up_from (i + 1) (p.N * p.Z - (i + 1))))
 
@@ -533,21 +532,23 @@ module _ (p : Params) (r : Ranged p) (off im : List ℕ) (li : length im ≡ ima
         go (yes! q) = ap (map (reset_no p)) (keep_hit f i (up_from (i + 1) (p.N * p.Z - (i + 1))) q) ∙ rw q refl
         go (no! q) = ap (map (reset_no p)) (keep_miss f i (up_from (i + 1) (p.N * p.Z - (i + 1))) q) ∙ rw q refl
 
-    pub serial_cut : m.cut ≡ true → Storing p count (serial_drops p (view ps₀) ts n) (at_k ps₀) m (at_k ps')
-    serial_cut c = owes_cut p count (serial_drops p (view ps₀) ts n) (at_k ps₀) (one_drop p (view ps) ts n i) rest left (at_k ps) m (at_k ps') parts t c
+    pub serial_cut : (ps' : List ℕ) → Storing p left (one_drop p (view ps) ts n i) (at_k ps) too_few (at_k ps')
+        → Storing p count (serial_drops p (view ps₀) ts n) (at_k ps₀) too_few (at_k ps')
+    serial_cut ps' t = owes_cut p count (serial_drops p (view ps₀) ts n) (at_k ps₀) (one_drop p (view ps) ts n i) rest left (at_k ps) (at_k ps') parts t
 
-    pub serial_turn : length ps' ≡ length ps → m.cut ≡ false → SerialLeft p off im ts count ps₀ n (i + 1) m.left ps'
-    serial_turn lp c = record {
+    pub serial_turn : (y : ℕ) (ps' : List ℕ) → Storing p left (one_drop p (view ps) ts n i) (at_k ps) (Ok y) (at_k ps') → length ps' ≡ length ps
+        → SerialLeft p off im ts count ps₀ n (i + 1) y ps'
+    serial_turn y ps' t lp = record {
       within = omega arith;
       long = lp ∙ s.long;
       same = λ j a b. ap (λ (v : View). bears_no p v ts n j) seen! ∙ one-leaves p r (view ps) (sized_of p off (at_k ps) (whole! ps s.long)) ts n i h j b (λ e. let x : ⊥ = omega arith in x)
           ∙ s.same j (omega arith) b;
-      owes = owes_turn p count (serial_drops p (view ps₀) ts n) (at_k ps₀) (one_drop p (view ps) ts n i) rest left (at_k ps) m (at_k ps') parts t c;
+      owes = owes_turn p count (serial_drops p (view ps₀) ts n) (at_k ps₀) (one_drop p (view ps) ts n i) rest left (at_k ps) y (at_k ps') parts t;
     }
       where
         seen! : view ps' ≡ store_all store_view_of (one_drop p (view ps) ts n i) (view ps)
         seen! = seen-after p r off (at_k ps) (at_k ps') (one_drop p (view ps) ts n i) (whole! ps s.long) (dropped_one_fits p r (view ps) ts n i h)
-            (storing_all p left (one_drop p (view ps) ts n i) (at_k ps) m (at_k ps') t c)
+            (storing_all p left (one_drop p (view ps) ts n i) (at_k ps) y (at_k ps') t)
 
   pub serials-start : SerialsLeft p off im ts count ps₀ count ps₀
   serials-start = record { serials_long = l₀; serials_owe = λ m k' h. h }
@@ -557,14 +558,14 @@ module _ (p : Params) (r : Ranged p) (off im : List ℕ) (li : length im ≡ ima
     sz! : Sized p (view ps)
     sz! = sized_of p off (at_k ps) (whole! ps a.serials_long)
 
-    pub serials_done : p.N * p.Z ≤ at → Storing p count (all_drops p (view ps₀) ts) (at_k ps₀) (record { left = left; cut = false }) (at_k ps)
+    pub serials_done : p.N * p.Z ≤ at → Storing p count (all_drops p (view ps₀) ts) (at_k ps₀) (Ok left) (at_k ps)
     serials_done h = owes_done p count (all_drops p (view ps₀) ts) (at_k ps₀) left (at_k ps)
         (subst (λ (l : List Store). Owes p count (all_drops p (view ps₀) ts) (at_k ps₀) l left (at_k ps)) (drops_none p r (view ps) sz! ts at k h) a.serials_owe)
 
-    module _ (h : at < p.N * p.Z) (m : Made) (ps' : List ℕ) (n : ℕ) (e : n ≡ serial_no p (view_of p off im ps) at)
-        (t : Storing p left (serial_drops p (view_of p off im ps) ts n) (mk_disk im ps) m (mk_disk im ps')) where
-      made! : Storing p left (serial_drops p (view ps) ts (serial_no p (view ps) at)) (at_k ps) m (at_k ps')
-      made! = subst (λ (x : ℕ). Storing p left (serial_drops p (view ps) ts x) (at_k ps) m (at_k ps')) e t
+    module _ (h : at < p.N * p.Z) (n : ℕ) (e : n ≡ serial_no p (view_of p off im ps) at) where
+      made! : (m : Result ℕ TooFew) (ps' : List ℕ) → Storing p left (serial_drops p (view ps) ts n) (at_k ps) m (at_k ps')
+          → Storing p left (serial_drops p (view ps) ts (serial_no p (view ps) at)) (at_k ps) m (at_k ps')
+      made! m ps' = subst (λ (x : ℕ). Storing p left (serial_drops p (view ps) ts x) (at_k ps) m (at_k ps')) e
 
       abbrev v₂ : View
       v₂ = store_all store_view_of (serial_drops p (view ps) ts (serial_no p (view ps) at)) (view ps)
@@ -572,20 +573,23 @@ module _ (p : Params) (r : Ranged p) (off im : List ℕ) (li : length im ≡ ima
       split! : Owes p count (all_drops p (view ps₀) ts) (at_k ps₀) (serial_drops p (view ps) ts (serial_no p (view ps) at) ++ all_drops p v₂ ts) left (at_k ps)
       split! = subst (λ (l : List Store). Owes p count (all_drops p (view ps₀) ts) (at_k ps₀) l left (at_k ps)) (drops_first p r (view ps) sz! ts at k h) a.serials_owe
 
-      pub serials-cut : m.cut ≡ true → Storing p count (all_drops p (view ps₀) ts) (at_k ps₀) m (at_k ps')
-      serials-cut c =
-          owes_cut p count (all_drops p (view ps₀) ts) (at_k ps₀) (serial_drops p (view ps) ts (serial_no p (view ps) at)) (all_drops p v₂ ts) left (at_k ps) m (at_k ps') split! made! c
+      pub serials-cut : (ps' : List ℕ) → Storing p left (serial_drops p (view_of p off im ps) ts n) (mk_disk im ps) too_few (mk_disk im ps')
+          → Storing p count (all_drops p (view ps₀) ts) (at_k ps₀) too_few (at_k ps')
+      serials-cut ps' t =
+          owes_cut p count (all_drops p (view ps₀) ts) (at_k ps₀) (serial_drops p (view ps) ts (serial_no p (view ps) at)) (all_drops p v₂ ts) left (at_k ps) (at_k ps') split!
+          (made! too_few ps' t)
 
-      module _ (c : m.cut ≡ false) where
+      module _ (y : ℕ) (ps' : List ℕ) (t : Storing p left (serial_drops p (view_of p off im ps) ts n) (mk_disk im ps) (Ok y) (mk_disk im ps')) where
         now! : view ps' ≡ v₂
         now! = drops_seen p r off (at_k ps) (at_k ps') ts (serial_no p (view ps) at) (whole! ps a.serials_long)
-            (storing_all p left (serial_drops p (view ps) ts (serial_no p (view ps) at)) (at_k ps) m (at_k ps') made! c)
+            (storing_all p left (serial_drops p (view ps) ts (serial_no p (view ps) at)) (at_k ps) y (at_k ps') (made! (Ok y) ps' t))
 
-        pub serials_turn : length ps' ≡ length ps → SerialsLeft p off im ts count ps₀ m.left ps'
+        pub serials_turn : length ps' ≡ length ps → SerialsLeft p off im ts count ps₀ y ps'
         serials_turn lp = record {
           serials_long = lp ∙ a.serials_long;
-          serials_owe = subst (λ (v : View). Owes p count (all_drops p (view ps₀) ts) (at_k ps₀) (all_drops p v ts) m.left (at_k ps')) (sym now!)
-              (owes_turn p count (all_drops p (view ps₀) ts) (at_k ps₀) (serial_drops p (view ps) ts (serial_no p (view ps) at)) (all_drops p v₂ ts) left (at_k ps) m (at_k ps') split! made! c);
+          serials_owe = subst (λ (v : View). Owes p count (all_drops p (view ps₀) ts) (at_k ps₀) (all_drops p v ts) y (at_k ps')) (sym now!)
+              (owes_turn p count (all_drops p (view ps₀) ts) (at_k ps₀) (serial_drops p (view ps) ts (serial_no p (view ps) at)) (all_drops p v₂ ts) left (at_k ps)
+              y (at_k ps') split! (made! (Ok y) ps' t));
         }
 
         pub serials-fewer : tally (untaken_no p (view ps') ts) (below (p.N * p.Z)) < tally (untaken_no p (view ps) ts) (below (p.N * p.Z))

@@ -1,5 +1,5 @@
 -- Stores in parts, one after the other, under a number: what is left to do, and that it fits (01, Store count). Assumes nothing.
-use Rattle.std.specs.Prelude.{ℕ, ◌+◌, ◌-◌, ◌≤◌, ◌<◌, true, false, List, [], ◌++◌, ◌≡◌}
+use Rattle.std.specs.Prelude.{ℕ, ◌+◌, ◌-◌, ◌≤◌, ◌<◌, Result, Ok, List, [], ◌++◌, ◌≡◌}
 use Rattle.spec.specs.Drives.{View, zone_at, Store, store_view_of, Disk, store_disk, store_all}
 use Rattle.spec.specs.Lists.{up_from, below, flat}
 use Rattle.spec.specs.declared.Params.{Params}
@@ -8,28 +8,26 @@ use Rattle.law_basic.specs.Ranges.{up_from_step, up_from_end, below-start, flat_
 use Rattle.law_restart.specs.Frames.{fits_split, seen-after, whole_after, zone_kept}
 use Rattle.law_drives.specs.Zones.{hits}
 use Rattle.law_views.specs.Views.{Whole, AllFit, seen}
-use Rattle.disk_zones.specs.Made.{Storing, storing_all, storing_stop, storing_join, storing_none}
-use Rattle.disk_zones.specs.declared.Made.{Made}
+use Rattle.disk_zones.specs.Made.{too_few, Storing, storing_all, storing_stop, storing_join, storing_none}
+use Rattle.disk_zones.specs.declared.TooFew.{TooFew}
 use Rattle.std.proofs.Common.{sym, ap, ◌∙◌, subst}
 
 -- the stores ts, made from k with left to go, come to what ss come to, made from k₀ under n
 abbrev pub Owes : Params → ℕ → List Store → Disk → List Store → ℕ → Disk → Type 0
-Owes p n ss k₀ ts left k = (m : Made) (k' : Disk) → Storing p left ts k m k' → Storing p n ss k₀ m k'
+Owes p n ss k₀ ts left k = (m : Result ℕ TooFew) (k' : Disk) → Storing p left ts k m k' → Storing p n ss k₀ m k'
 
 module _ (p : Params) (n : ℕ) (ss : List Store) (k₀ : Disk) where
   -- a part is made
-  pub owes_turn : (ts us : List Store) (left : ℕ) (k : Disk) (m : Made) (k' : Disk) → Owes p n ss k₀ (ts ++ us) left k → Storing p left ts k m k' → m.cut ≡ false
-      → Owes p n ss k₀ us m.left k'
-  owes_turn ts us left k m k' o s c m2 k2 h = o m2 k2 (storing_join p left ts k m k' s us m2 k2 c h)
+  pub owes_turn : (ts us : List Store) (left : ℕ) (k : Disk) (y : ℕ) (k' : Disk) → Owes p n ss k₀ (ts ++ us) left k → Storing p left ts k (Ok y) k' → Owes p n ss k₀ us y k'
+  owes_turn ts us left k y k' o s m2 k2 h = o m2 k2 (storing_join p left ts k y k' s us m2 k2 h)
 
   -- the number is too small for it
-  pub owes_cut : (ts us : List Store) (left : ℕ) (k : Disk) (m : Made) (k' : Disk) → Owes p n ss k₀ (ts ++ us) left k → Storing p left ts k m k' → m.cut ≡ true
-      → Storing p n ss k₀ m k'
-  owes_cut ts us left k m k' o s c = o m k' (storing_stop p left ts k m k' s us c)
+  pub owes_cut : (ts us : List Store) (left : ℕ) (k k' : Disk) → Owes p n ss k₀ (ts ++ us) left k → Storing p left ts k too_few k' → Storing p n ss k₀ too_few k'
+  owes_cut ts us left k k' o s = o too_few k' (storing_stop p left ts k k' s us)
 
   -- nothing is left to do
-  pub owes_done : (left : ℕ) (k : Disk) → Owes p n ss k₀ [] left k → Storing p n ss k₀ (record { left = left; cut = false }) k
-  owes_done left k o = o (record { left = left; cut = false }) k (storing_none p left k)
+  pub owes_done : (left : ℕ) (k : Disk) → Owes p n ss k₀ [] left k → Storing p n ss k₀ (Ok left) k
+  owes_done left k o = o (Ok left) k (storing_none p left k)
 
 -- and what is left to do fits
 pub record Going (p : Params) (off : List ℕ) (n : ℕ) (ss : List Store) (k₀ : Disk) (ts : List Store) (left : ℕ) (k : Disk) : Type 0 where
@@ -45,17 +43,17 @@ pub going_as : (p : Params) (off : List ℕ) (n : ℕ) (ss : List Store) (k₀ :
     → Going p off n ss k₀ ts left k → Going p off n ss k₀ us left k
 going_as p off n ss k₀ ts us left k e g = subst (λ (l : List Store). Going p off n ss k₀ l left k) e g
 
-module _ (p : Params) (r : Ranged p) (off : List ℕ) (n : ℕ) (ss : List Store) (k₀ : Disk) (ts us : List Store) (left : ℕ) (k : Disk) (m : Made) (k' : Disk)
-    (g : Going p off n ss k₀ (ts ++ us) left k) (s : Storing p left ts k m k') (c : m.cut ≡ false) where
+module _ (p : Params) (r : Ranged p) (off : List ℕ) (n : ℕ) (ss : List Store) (k₀ : Disk) (ts us : List Store) (left : ℕ) (k : Disk) (y : ℕ) (k' : Disk)
+    (g : Going p off n ss k₀ (ts ++ us) left k) (s : Storing p left ts k (Ok y) k') where
   made_all : k' ≡ store_all (store_disk p) ts k
-  made_all = storing_all p left ts k m k' s c
+  made_all = storing_all p left ts k y k' s
 
   fit_split : AllFit p (seen p off k) ts × AllFit p (store_all store_view_of ts (seen p off k)) us
   fit_split = fits_split p (seen p off k) ts us g.fits
 
-  pub going_turn : Going p off n ss k₀ us m.left k'
+  pub going_turn : Going p off n ss k₀ us y k'
   going_turn = record {
-    owes = owes_turn p n ss k₀ ts us left k m k' g.owes s c;
+    owes = owes_turn p n ss k₀ ts us left k y k' g.owes s;
     fits = subst (λ (v : View). AllFit p v us) (sym (seen-after p r off k k' ts g.whole fit_split.0 made_all)) fit_split.1;
     whole = whole_after p r off k k' ts g.whole fit_split.0 made_all;
   }

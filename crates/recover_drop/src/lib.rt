@@ -1,6 +1,7 @@
 // The zones of dropped segments are reset; and how stores in parts go on (specs/Going.antt) (01, Restart, 4; Store count; 02, item 4).
 #![tactic(auto)]
 
+ghost use Rattle.disk_drives.specs.Viewed.{viewed};
 ghost use Rattle.std.specs.Prelude.{◌≡◌, true, cond, ◌||◌, List, [], ◌∷◌, ℕ, ◌*◌, ◌≤◌, ◌<◌, leb, ltb, length};
 ghost use Rattle.spec.specs.Drives.{view_of, mk_disk};
 ghost use Rattle.spec.specs.Drives.Store.{reset};
@@ -12,23 +13,27 @@ ghost use Rattle.recover_drop.specs.Rising.{LeastKey};
 ghost use Rattle.law_views.specs.Views.{Whole};
 ghost use Rattle.disk_zones.specs.Made.{Storing};
 
-use disk_zones::Made;
+use disk_drives::Drives;
+use disk_zones::TooFew;
 use spec::{Params, Serial};
 
 // A reset under a store count; the image is left as it is.
-pub fn reset_limited(p: Params, pointers: &mut [u8], drive: usize, zone: usize, count: u64) -> Made
+pub fn reset_limited(
+    p: Params,
+    pointers: &mut [u8],
+    drive: usize,
+    zone: usize,
+    count: u64,
+) -> Result<u64, TooFew>
     requires p_value { in_range p ≡ true }
     requires pointers_len { (length pointers.old ≡ pointers_len p) × (drive < p.N) × (zone < p.Z) }
     ensures { (im : List ℕ) → Storing p count (reset drive zone ∷ []) (mk_disk im pointers.old) result (mk_disk im pointers.new) }
 {
     if count == 0 {
-        return Made { left: 0, cut: true };
+        return Err(TooFew);
     }
     disk_zones::reset(p, pointers, drive, zone);
-    Made {
-        left: count - 1,
-        cut: false,
-    }
+    Ok(count - 1)
 }
 
 // ---- zones by number: drive after drive
@@ -74,20 +79,17 @@ fn lower(p: Params, image: &[u8], n: usize, best: usize, i: usize) -> usize
 }
 
 // Of the zones that are used and not taken, one with the lowest serial; as many as there are zones where none is.
-fn lowest_untaken(p: Params, image: &[u8], pointers: &[u8], offline: &[u8], taken: &[bool]) -> usize
-    requires p_value { in_range p ≡ true }
-    requires whole { Whole p (mk_disk image.now pointers.now) × (length offline.now ≡ offline_len p) × (p.N * p.Z ≤ length taken.now) }
-    ensures { LeastKey (untaken_no p (view_of p offline.now image.now pointers.now) taken.now)
-        (serial_no p (view_of p offline.now image.now pointers.now)) (p.N * p.Z) result }
+fn lowest_untaken(drives: &Drives<'_>, taken: &[bool]) -> usize
+    requires taken_long { (drives.now.p.N * drives.now.p.Z ≤ length taken.now) }
+    ensures { LeastKey (untaken_no drives.now.p (viewed drives.now) taken.now)
+        (serial_no drives.now.p (viewed drives.now)) (drives.now.p.N * drives.now.p.Z) result }
 {
-    let n = disk_shape::offline_len(p);
+    let n = disk_shape::offline_len(drives.p);
     let mut best = n;
-    let mut i = 0;
-    while i < n {
-        if is_untaken(p, pointers, offline, taken, i) {
-            best = lower(p, image, n, best, i);
+    for i in 0..n {
+        if is_untaken(drives.p, drives.pointers, drives.offline, taken, i) {
+            best = lower(drives.p, drives.image, n, best, i);
         }
-        i += 1;
     }
     best
 }
@@ -102,24 +104,18 @@ fn drop_zone(
     i: usize,
     serial: Serial,
     count: u64,
-) -> Made
+) -> Result<u64, TooFew>
     requires p_value { in_range p ≡ true }
     requires whole { Whole p (mk_disk image.now pointers.old) × (length offline.now ≡ offline_len p) × (p.N * p.Z ≤ length taken.now) × (i < p.N * p.Z) }
     ensures { Storing p count (one_drop p (view_of p offline.now image.now pointers.old) taken.now serial.0 i)
         (mk_disk image.now pointers.old) result (mk_disk image.now pointers.new) }
 {
     if !is_untaken(p, pointers, offline, taken, i) {
-        return Made {
-            left: count,
-            cut: false,
-        };
+        return Ok(count);
     }
     let s = serial_no(p, image, i);
     if s.0 != serial.0 {
-        return Made {
-            left: count,
-            cut: false,
-        };
+        return Ok(count);
     }
     reset_limited(p, pointers, i / p.Z, i % p.Z, count)
 }
@@ -133,7 +129,7 @@ fn drop_serial(
     taken: &[bool],
     serial: Serial,
     count: u64,
-) -> Made
+) -> Result<u64, TooFew>
     requires p_value { in_range p ≡ true }
     requires whole { Whole p (mk_disk image.now pointers.old) × (length offline.now ≡ offline_len p) × (p.N * p.Z ≤ length taken.now) }
     ensures { Storing p count (serial_drops p (view_of p offline.now image.now pointers.old) taken.now serial.0)
@@ -141,16 +137,10 @@ fn drop_serial(
 {
     let n = disk_shape::offline_len(p);
     let mut left = count;
-    let mut i = 0;
-    while i < n {
-        let made = drop_zone(p, image, pointers, offline, taken, i, serial, left);
-        if made.cut {
-            return made;
-        }
-        left = made.left;
-        i += 1;
+    for i in 0..n {
+        left = drop_zone(p, image, pointers, offline, taken, i, serial, left)?;
     }
-    Made { left, cut: false }
+    Ok(left)
 }
 
 // 01, Restart, 4; 02, item 4: all zones that bear a dropped serial are reset, the lower serial first, by drive, then zone, under a store count. The zones taken
@@ -162,7 +152,7 @@ pub fn drop_stores(
     offline: &[u8],
     taken: &[bool],
     count: u64,
-) -> Made
+) -> Result<u64, TooFew>
     requires p_value { in_range p ≡ true }
     requires whole { Whole p (mk_disk image.now pointers.old) × (length offline.now ≡ offline_len p) }
     requires drops { Drops p (view_of p offline.now image.now pointers.old) taken.now }
@@ -172,15 +162,27 @@ pub fn drop_stores(
 {
     let n = disk_shape::offline_len(p);
     let mut left = count;
-    let mut at = lowest_untaken(p, image, pointers, offline, taken);
+    let mut at = lowest_untaken(
+        &Drives {
+            p,
+            image,
+            pointers,
+            offline,
+        },
+        taken,
+    );
     while at < n {
         let serial = serial_no(p, image, at);
-        let made = drop_serial(p, image, pointers, offline, taken, serial, left);
-        if made.cut {
-            return made;
-        }
-        left = made.left;
-        at = lowest_untaken(p, image, pointers, offline, taken);
+        left = drop_serial(p, image, pointers, offline, taken, serial, left)?;
+        at = lowest_untaken(
+            &Drives {
+                p,
+                image,
+                pointers,
+                offline,
+            },
+            taken,
+        );
     }
-    Made { left, cut: false }
+    Ok(left)
 }

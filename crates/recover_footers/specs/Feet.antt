@@ -1,5 +1,5 @@
 -- Missing footers, drive by drive (01, Restart, 4). Assumes nothing.
-use Rattle.std.specs.Prelude.{ℕ, ◌+◌, ◌-◌, ◌≤◌, ◌<◌, eqb, get_or, Bool, true, false, ◌&&◌, List, [], ◌++◌, map, ◌≡◌, refl}
+use Rattle.std.specs.Prelude.{ℕ, ◌+◌, ◌-◌, ◌≤◌, ◌<◌, eqb, get_or, Bool, Result, Ok, ◌&&◌, List, [], ◌++◌, map, ◌≡◌, refl}
 use Rattle.spec.specs.Drives.{Zone, no_zone, View, zone_at, pointer_at, Store, Disk, pointer_of, zone_on, footer_stores}
 use Rattle.spec.specs.Faults.{footers_stored}
 use Rattle.spec.specs.Lists.{up_from, below, flat}
@@ -15,8 +15,8 @@ use Rattle.law_drives.specs.Segs.{zone_by, seg_is}
 use Rattle.law_drives.specs.Tests.{cond_false}
 use Rattle.law_drives.specs.Zones.{hits}
 use Rattle.law_views.specs.Views.{Whole, pointer_view, AllFit, seen}
-use Rattle.disk_zones.specs.Made.{Storing}
-use Rattle.disk_zones.specs.declared.Made.{Made}
+use Rattle.disk_zones.specs.Made.{too_few, Storing}
+use Rattle.disk_zones.specs.declared.TooFew.{TooFew}
 use Rattle.std.proofs.Common.{ne_eqb, sym, ap₂, ◌∙◌, subst, arith}
 use Rattle.std.proofs.Math.Path.{ap}
 use Rattle.spec.specs.declared.Seg.{Seg}
@@ -64,7 +64,7 @@ lack_fits p r off k d z f hd hz w e a b =
         as! q = unfold pointer_at in q
 
 -- the footers of a zone, by its numbers of them
-pub lack_stores : (p : Params) (n d z : ℕ) (q : Zone) (f g : ℕ) (k : Disk) (m : Made) (k' : Disk) → f ≡ footers_stored p q → g ≡ footers p
+pub lack_stores : (p : Params) (n d z : ℕ) (q : Zone) (f g : ℕ) (k : Disk) (m : Result ℕ TooFew) (k' : Disk) → f ≡ footers_stored p q → g ≡ footers p
     → Storing p n (footer_stores p d z q f (g - f)) k m k' → Storing p n (footer_stores p d z q (footers_stored p q) (footers p - footers_stored p q)) k m k'
 lack_stores p n d z q f g k m k' a b s =
     subst (λ (x : ℕ). Storing p n (footer_stores p d z q x (footers p - x)) k m k') a (subst (λ (x : ℕ). Storing p n (footer_stores p d z q f (x - f)) k m k') b s)
@@ -101,32 +101,36 @@ module _ (p : Params) (r : Ranged p) (off : List ℕ) (n : ℕ) (sg : Seg) (hz :
         as! : pointer_at (seen p off k) e (zone_on sg e) ≡ pointer_at (seen p off k₀) e (zone_on sg e)
         as! = unfold pointer_at in ap (λ (q : Zone). q.pointer) (g.same e h l)
 
-    pub feet_done : p.N ≤ d → Storing p n ss k₀ (record { left = left; cut = false }) k
+    pub feet_done : p.N ≤ d → Storing p n ss k₀ (Ok left) k
     feet_done h = owes_done p n ss k₀ left k (going_as p off n ss k₀ (flat each (up_from d (p.N - d))) [] left k (flat_end each d p.N h) g.going).owes
 
-    module _ (l : d < p.N) (z : ℕ) (ez : z ≡ zone_on sg d) (m : Made) (k' : Disk)
-        (s : Storing p left (footer_stores p d z (zone_at (seen p off k) d z) (footers_stored p (zone_at (seen p off k) d z)) (footers p - footers_stored p (zone_at (seen p off k) d z))) k m k') where
+    module _ (l : d < p.N) (z : ℕ) (ez : z ≡ zone_on sg d) where
+      -- its stores, by the bytes
+      abbrev due : List Store
+      due = footer_stores p d z (zone_at (seen p off k) d z) (footers_stored p (zone_at (seen p off k) d z)) (footers p - footers_stored p (zone_at (seen p off k) d z))
+
       abbrev rest : List Store
       rest = flat each (up_from (d + 1) (p.N - (d + 1)))
 
       drive_feet_step : Going p off n ss k₀ (each d ++ rest) left k
       drive_feet_step = going_as p off n ss k₀ (flat each (up_from d (p.N - d))) (each d ++ rest) left k (flat_step each d p.N l) g.going
 
-      this : Storing p left (each d) k m k'
-      this = subst (λ (x : List Store). Storing p left x k m k')
+      this : (m : Result ℕ TooFew) (k' : Disk) → Storing p left due k m k' → Storing p left (each d) k m k'
+      this m k' = subst (λ (x : List Store). Storing p left x k m k')
           (ap (λ (y : ℕ). footer_stores p d y (zone_at (seen p off k) d y) (footers_stored p (zone_at (seen p off k) d y)) (footers p - footers_stored p (zone_at (seen p off k) d y))) ez
-          ∙ missing_feet_on p (seen p off k₀) 0 sg d (zone_at (seen p off k) d (zone_on sg d)) l (g.same d (omega arith) l)) s
+          ∙ missing_feet_on p (seen p off k₀) 0 sg d (zone_at (seen p off k) d (zone_on sg d)) l (g.same d (omega arith) l))
 
-      pub feet_cut : m.cut ≡ true → Storing p n ss k₀ m k'
-      feet_cut c = owes_cut p n ss k₀ (each d) rest left k m k' drive_feet_step.owes this c
+      pub feet_cut : (k' : Disk) → Storing p left due k too_few k' → Storing p n ss k₀ too_few k'
+      feet_cut k' s = owes_cut p n ss k₀ (each d) rest left k k' drive_feet_step.owes (this too_few k' s)
 
-      pub feet_turn : m.cut ≡ false → FeetUpto p off n sg k₀ (d + 1) m.left k'
-      feet_turn c = record {
+      pub feet_turn : (y : ℕ) (k' : Disk) → Storing p left due k (Ok y) k' → FeetUpto p off n sg k₀ (d + 1) y k'
+      feet_turn y k' s = record {
         up_to = omega arith;
         same =
-            λ e h j. going_kept p r off n ss k₀ (each d) rest left k m k' drive_feet_step this c e (zone_on sg e) j (low_here p sg e hz j) (apart e (λ q. let bad : ⊥ = omega arith in bad))
+            λ e h j. going_kept p r off n ss k₀ (each d) rest left k y k' drive_feet_step (this (Ok y) k' s) e (zone_on sg e) j (low_here p sg e hz j)
+            (apart e (λ q. let bad : ⊥ = omega arith in bad))
             ∙ g.same e (omega arith) j;
-        going = going_turn p r off n ss k₀ (each d) rest left k m k' drive_feet_step this c;
+        going = going_turn p r off n ss k₀ (each d) rest left k y k' drive_feet_step (this (Ok y) k' s);
       }
         where
           apart : (e : ℕ) → (d ≡ e → ⊥) → hits e (zone_on sg e) (each d) ≡ []

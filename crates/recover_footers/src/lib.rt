@@ -11,7 +11,7 @@ ghost use Rattle.law_views.specs.Views.{Whole, AllFit};
 ghost use Rattle.disk_zones.specs.Made.{Storing};
 ghost use Rattle.law_basic.specs.Segs.{ZonesLow};
 
-use disk_zones::Made;
+use disk_zones::TooFew;
 use spec::{Params, Seg};
 
 // 01, Restart, 4: the footers that a drive lacks.
@@ -22,7 +22,7 @@ fn missing_on(
     drive: usize,
     zone: usize,
     count: u64,
-) -> Made
+) -> Result<u64, TooFew>
     requires p_value { in_range p ≡ true }
     requires whole { Whole p (mk_disk image.old pointers.old) }
     requires drive_lt_n { (drive < p.N) × (zone < p.Z) × (1 + p.S ≤ pointer_of p pointers.old drive zone) × (pointer_of p pointers.old drive zone ≤ capacity p) }
@@ -44,7 +44,7 @@ pub fn missing_footers(
     pointers: &mut [u8],
     segment: Seg,
     count: u64,
-) -> Made
+) -> Result<u64, TooFew>
     requires p_value { in_range p ≡ true }
     requires whole { Whole p (mk_disk image.old pointers.old) }
     requires zones_low { ZonesLow p 0 segment × ((d : ℕ) → d < p.N → (1 + p.S ≤ pointer_of p pointers.old d (zone_on segment d))
@@ -55,21 +55,9 @@ pub fn missing_footers(
         (mk_disk image.old pointers.old) result (mk_disk image.new pointers.new) }
 {
     let mut left = count;
-    let mut d = 0;
-    while d < p.N {
-        let made = missing_on(
-            p,
-            image,
-            pointers,
-            d,
-            disk_shape::zone_on(p, segment, d),
-            left,
-        );
-        if made.cut {
-            return made;
-        }
-        left = made.left;
-        d += 1;
+    for d in 0..p.N {
+        let zone = disk_shape::zone_on(p, segment, d);
+        left = missing_on(p, image, pointers, d, zone, left)?;
     }
-    Made { left, cut: false }
+    Ok(left)
 }

@@ -3,7 +3,7 @@
 
 ghost use Rattle.std.specs.Prelude.{◌≡◌, true, false, cond, not, ◌||◌, List, ℕ, ◌+◌, ◌-◌, ◌*◌, ◌%◌, ◌≤◌, ◌<◌, eqb, length, get_or, set};
 ghost use Rattle.std.specs.Int.Bits.{bit_xor};
-ghost use Rattle.spec.specs.Bytes.{part, xors};
+ghost use Rattle.spec.specs.Bytes.{part};
 ghost use Rattle.spec.specs.Drives.{view_of, mk_disk, sealed_in, zone_at, record_in, zone_on};
 ghost use Rattle.spec.specs.Faults.{bad_rec, stored_bad};
 ghost use Rattle.spec.specs.declared.Params.{Params};
@@ -21,6 +21,7 @@ use disk_records::Record;
 use spec::{Address, Params, Seg, Stamp};
 
 // A group of a segment as read: the missing drives, the segment, sealed or not, the group's first stripe.
+// Stays: full is a fact beside the others, not whether they hold, so no `Option` takes its place.
 #[derive(Clone, Copy)]
 pub struct Group {
     pub gone: u8,
@@ -73,11 +74,9 @@ pub fn clear_row(p: Params, at: &mut [u16], drive: usize)
     ensures by_index { (k : ℕ) → k < p.G → get_or at.new (256 * drive + k) 0 ≡ 0 }
     ensures same_below { SameBelow drive at.old at.new }
 {
-    let mut k = 0;
-    while k < p.G {
+    for k in 0..p.G {
         let j = 256 * drive + k;
         at[j] = 0;
-        k += 1;
     }
 }
 
@@ -167,8 +166,7 @@ fn index_drive(
     let n = group_stored(p, pointers, w, drive);
     let base = w.base;
     let zone = disk_shape::zone_on(p, w.seg, drive);
-    let mut i = 0;
-    while i < n {
+    for i in 0..n {
         let r = record_of(p, image, w.full, drive, zone, base + i);
         if stored_bad(p, drive, r) {
             return false;
@@ -176,7 +174,6 @@ fn index_drive(
         if !enter(p, at, drive, base, r.stripe as usize, i + 1) {
             return false;
         }
-        i += 1;
     }
     true
 }
@@ -222,12 +219,10 @@ pub fn index_group(p: Params, image: &[u8], pointers: &[u8], w: Group, at: &mut 
         → recs_fault p w.gone (segment_in p off image.now pointers.now w) ≡ false
         → Indexed p (segment_in p off image.now pointers.now w) w.base at.new }
 {
-    let mut d = 0;
-    while d < p.N {
+    for d in 0..p.N {
         if !index_any(p, image, pointers, w, d, at) {
             return false;
         }
-        d += 1;
     }
     true
 }
@@ -252,19 +247,18 @@ pub fn chunks(p: Params, at: &[u16], k: usize) -> usize
     ensures value { (g : Segment) (base : ℕ) → Indexed p g base at.now → k < group_len p base → result ≡ length (keep (has_chunk g (base + k)) (drives_of p)) }
 {
     let mut n = 0;
-    let mut d = 0;
-    while d < p.N {
+    for d in 0..p.N {
         if has_chunk(at, d, k) {
             n += 1;
         }
-        d += 1;
     }
     n
 }
 
 // The drive is missing, or has the stripe's chunk.
-fn is_there(gone: u8, at: &[u16], drive: usize, k: usize) -> bool
-    requires { (length at.now ≡ 2048) × (drive < 8) × (k < 256) }
+fn is_there(p: Params, gone: u8, at: &[u16], drive: usize, k: usize) -> bool
+    requires p_value { in_range p ≡ true }
+    requires at_len { (length at.now ≡ 2048) × (drive < p.N) × (k < 256) }
     ensures { result ≡ (is_in gone drive || not (eqb (get_or at.now (256 * drive + k) 0) 0)) }
 {
     if bits_masks::has_drive(gone, drive) {
@@ -279,14 +273,7 @@ pub fn counts(p: Params, gone: u8, at: &[u16], k: usize) -> bool
     requires at_len { (length at.now ≡ 2048) × (k < 256) }
     ensures { (g : Segment) (base : ℕ) → Indexed p g base at.now → k < group_len p base → result ≡ counts p gone g (base + k) }
 {
-    let mut d = 0;
-    while d < p.N {
-        if !is_there(gone, at, d, k) {
-            return false;
-        }
-        d += 1;
-    }
-    true
+    (0..p.N).all(|d| is_there(p, gone, at, d, k))
 }
 
 // The offset of the stripe's chunk on a drive that has it.
@@ -355,12 +342,10 @@ pub fn lost_rec(p: Params, image: &[u8], w: Group, at: &[u16], drive: usize, k: 
 {
     let mut addresses = [0u64; 8];
     let mut stamps = [0u64; 8];
-    let mut d = 0;
-    while d < p.N {
+    for d in 0..p.N {
         let r = present_rec(p, image, w, at, d, k);
         addresses[d] = r.address.0;
         stamps[d] = r.stamp.0;
-        d += 1;
     }
     let s = (w.base + k) as u32;
     disk_code::decode_record(p, &addresses, &stamps, w.gone, s, drive)
@@ -406,51 +391,25 @@ pub fn block_at(p: Params, w: Group, at: &[u16], drive: usize, k: usize) -> usiz
     disk_shape::block_byte(p, drive, zone, 1 + offset_on(w, at, drive, k))
 }
 
-// Adds the block of the stripe's chunk on a drive that has it.
-pub fn xor_block(
-    p: Params,
-    image: &[u8],
-    w: Group,
-    at: &[u16],
-    drive: usize,
-    k: usize,
-    block: &mut [u8],
-)
-    requires p_value { in_range p ≡ true }
-    requires image_len { (length image.now ≡ image_len p) × (length at.now ≡ 2048) × (zone_on w.seg drive < p.Z) × (w.base < p.S) × (drive < p.N) × (k < group_len p w.base)
-        × (length block.old ≡ p.B) }
-    requires entered { Entered p w.base at.now drive k }
-    ensures { (off : List ℕ) (ps : List ℕ)
-        → GroupReads p off image.now ps w at.now
-        → block.new ≡ xors block.old (stored_piece (segment_in p off image.now ps w) (w.base + k) drive).block }
-{
-    let zone = disk_shape::zone_on(p, w.seg, drive);
-    let a = disk_shape::block_byte(p, drive, zone, 1 + offset_on(w, at, drive, k));
-    let e = a + p.B;
-    disk_blocks::xor_into(block, &image[a..e]);
-}
-
 // The block of the stripe's chunk on a drive that has it.
-pub fn copy_block(
+pub fn chunk_block<'a>(
     p: Params,
-    image: &[u8],
+    image: &'a [u8],
     w: Group,
     at: &[u16],
     drive: usize,
     k: usize,
-    block: &mut [u8],
-)
+) -> &'a [u8]
     requires p_value { in_range p ≡ true }
-    requires image_len { (length image.now ≡ image_len p) × (length at.now ≡ 2048) × (zone_on w.seg drive < p.Z) × (w.base < p.S) × (drive < p.N) × (k < group_len p w.base)
-        × (length block.old ≡ p.B) }
+    requires image_len { (length image.now ≡ image_len p) × (length at.now ≡ 2048) × (zone_on w.seg drive < p.Z) × (w.base < p.S) × (drive < p.N) × (k < group_len p w.base) }
     requires entered { Entered p w.base at.now drive k }
-    ensures { (off : List ℕ) (ps : List ℕ) → GroupReads p off image.now ps w at.now
-        → block.new ≡ (stored_piece (segment_in p off image.now ps w) (w.base + k) drive).block }
+    ensures long { length result.now ≡ p.B }
+    ensures block { (off : List ℕ) (ps : List ℕ)
+        → GroupReads p off image.now ps w at.now
+        → result.now ≡ (stored_piece (segment_in p off image.now ps w) (w.base + k) drive).block }
 {
-    let zone = disk_shape::zone_on(p, w.seg, drive);
-    let a = disk_shape::block_byte(p, drive, zone, 1 + offset_on(w, at, drive, k));
-    let e = a + p.B;
-    disk_blocks::copy(block, &image[a..e]);
+    let a = block_at(p, w, at, drive, k);
+    &image[a..a + p.B]
 }
 
 // Byte offset of the block of the stripe's chunk on a drive; 0 for a missing one.
@@ -491,10 +450,8 @@ pub fn lost_block(
         ≡ decode_block p w.gone (w.base + k) drive (λ e. (stored_piece (segment_in p off image.now ps w) (w.base + k) e).block) }
 {
     let mut from = [0usize; 8];
-    let mut d = 0;
-    while d < p.N {
+    for d in 0..p.N {
         from[d] = present_block(p, w, at, d, k);
-        d += 1;
     }
     let s = w.base + k;
     disk_code::decode_block(p, image, &from, w.gone, s, drive, block);

@@ -1,17 +1,18 @@
 // Refusal 9 of restart and rebuild but for the records: write pointers, headers, serials, the zones that headers name, footers (01, Refusals; 02, item 4).
 #![tactic(auto)]
 
-ghost use Rattle.std.specs.Prelude.{◌≡◌, true, false, cond, not, ◌&&◌, List, ℕ, ◌+◌, ◌*◌, ◌≤◌, ◌<◌, min, eqb, ltb, length, get_or};
+ghost use Rattle.std.specs.Prelude.{◌≡◌, true, false, cond, not, ◌&&◌, List, ℕ, ◌+◌, ◌*◌, ◌≤◌, ◌<◌, min, eqb, ltb, length, get_or, IfSome};
 ghost use Rattle.spec.specs.Drives.{no_zone, view_of, zone_at, chunk_at, mk_disk, pointer_of, is_good, zone_on, zones_in, seg_with};
 ghost use Rattle.spec.specs.Faults.{pointer_faults, header_fault, footer_fault_in};
 ghost use Rattle.spec.specs.Layout.{header_zone};
-ghost use Rattle.spec.specs.Lists.{first_or, any, below, is_in};
+ghost use Rattle.spec.specs.Lists.{any, below, is_in};
 ghost use Rattle.spec.specs.Params.{in_range, footers, capacity, image_len, pointers_len, offline_len, present};
 ghost use Rattle.spec.specs.Segments.{segment_of};
 ghost use Rattle.law_basic.specs.Segs.{ZonesLow};
 ghost use Rattle.law_views.specs.Views.{Whole};
 ghost use Rattle.law_drives.specs.Segs.{Here};
 ghost use Rattle.disk_gather.specs.Flags.{Keeps};
+ghost use Rattle.disk_gather.specs.Ranges.{opt_first};
 ghost use Rattle.recover_headers.specs.Fronts.{above_by, header_off, footer_off};
 ghost use Rattle.recover_headers.specs.Names.{NameCounts, name_bad, FrontSays};
 
@@ -40,33 +41,19 @@ fn any_above(p: Params, pointers: &[u8], offline: &[u8], gone: u8, zone: usize) 
     requires pointers_len { (length pointers.now ≡ pointers_len p) × (length offline.now ≡ offline_len p) × (zone < p.Z) }
     ensures { result ≡ above_by p pointers.now offline.now gone zone }
 {
-    let mut d = 0;
-    while d < p.N {
-        if is_above(p, pointers, offline, gone, d, zone) {
-            return true;
-        }
-        d += 1;
-    }
-    false
+    (0..p.N).any(|d| is_above(p, pointers, offline, gone, d, zone))
 }
 
-// 01, Refusals, 9; 02, item 4: the lowest zone with a present drive's write pointer above capacity, in a good zone; Z if there is none.
-pub fn pointer_fault(p: Params, pointers: &[u8], offline: &[u8], gone: u8) -> usize
+// 01, Refusals, 9; 02, item 4: the lowest zone with a present drive's write pointer above capacity, in a good zone.
+pub fn pointer_fault(p: Params, pointers: &[u8], offline: &[u8], gone: u8) -> Option<usize>
     requires p_value { in_range p ≡ true }
     requires pointers_len { (length pointers.now ≡ pointers_len p) × (length offline.now ≡ offline_len p) }
-    ensures upper_bound { result ≤ p.Z }
-    ensures by_index { (im : List ℕ)
+    ensures low { IfSome result (λ z. z < p.Z) }
+    ensures first { (im : List ℕ)
         → length im ≡ image_len p
-        → result ≡ first_or p.Z (pointer_faults p (view_of p offline.now im pointers.now) gone) }
+        → result ≡ opt_first (pointer_faults p (view_of p offline.now im pointers.now) gone) }
 {
-    let mut z = 0;
-    while z < p.Z {
-        if any_above(p, pointers, offline, gone, z) {
-            return z;
-        }
-        z += 1;
-    }
-    p.Z
+    (0..p.Z).find(|z| any_above(p, pointers, offline, gone, *z))
 }
 
 // ---- headers
@@ -80,10 +67,8 @@ fn names_in(p: Params, image: &[u8], drive: usize, zone: usize) -> Seg
         → result ≡ seg_with p (header_zone p (chunk_at (view_of p off image.now ps) drive zone 0).block) }
 {
     let mut zones = [0u32; 8];
-    let mut d = 0;
-    while d < p.N {
+    for d in 0..p.N {
         zones[d] = disk_gather::zone_named(p, image, drive, zone, d);
-        d += 1;
     }
     Seg { zones }
 }
@@ -131,14 +116,7 @@ fn header_fault(
         → copied.0 ≡ (segment_of p (view_of p off image.now ps) gone segment).copied
         → result ≡ header_fault p gone (segment_of p (view_of p off image.now ps) gone segment) }
 {
-    let mut d = 0;
-    while d < p.N {
-        if header_differs(p, image, gone, d, segment, names, serial, copied) {
-            return true;
-        }
-        d += 1;
-    }
-    false
+    (0..p.N).any(|d| header_differs(p, image, gone, d, segment, names, serial, copied))
 }
 
 // A present drive's zone is not the one that is named for it.
@@ -158,14 +136,7 @@ fn own_fault(p: Params, gone: u8, segment: Seg, names: Seg) -> bool
     requires { in_range p ≡ true }
     ensures { result ≡ any (λ d. not (eqb (zone_on names d) (zone_on segment d))) (present p gone) }
 {
-    let mut d = 0;
-    while d < p.N {
-        if not_own(p, gone, d, segment, names) {
-            return true;
-        }
-        d += 1;
-    }
-    false
+    (0..p.N).any(|d| not_own(p, gone, d, segment, names))
 }
 
 // ---- names: how often a zone is named is counted once for all segments
@@ -201,10 +172,8 @@ fn count_names(p: Params, counts: &mut [u8], names: Seg)
         → get_or counts.new (d * p.Z + z) 0
         ≡ cond (eqb (zone_on names d) z) (min 2 (get_or counts.old (d * p.Z + z) 0 + 1)) (get_or counts.old (d * p.Z + z) 0) }
 {
-    let mut d = 0;
-    while d < p.N {
+    for d in 0..p.N {
         count_name(p, counts, d, disk_shape::zone_on(p, names, d));
-        d += 1;
     }
 }
 
@@ -238,10 +207,8 @@ pub fn name_counts(p: Params, image: &[u8], gone: u8, kept: &[bool], counts: &mu
 {
     let low = disk_gather::low_drive(p, gone);
     disk_blocks::clear(counts);
-    let mut z = 0;
-    while z < p.Z {
+    for z in 0..p.Z {
         count_if(p, image, kept[z], counts, low, z);
-        z += 1;
     }
 }
 
@@ -266,14 +233,7 @@ fn name_fault(p: Params, offline: &[u8], counts: &[u8], names: Seg) -> bool
     requires offline_len { (length offline.now ≡ offline_len p) × (p.N * p.Z ≤ length counts.now) }
     ensures { result ≡ any (λ d. name_bad p offline.now counts.now d (zone_on names d)) (below p.N) }
 {
-    let mut d = 0;
-    while d < p.N {
-        if is_bad_name(p, offline, counts, d, disk_shape::zone_on(p, names, d)) {
-            return true;
-        }
-        d += 1;
-    }
-    false
+    (0..p.N).any(|d| is_bad_name(p, offline, counts, d, disk_shape::zone_on(p, names, d)))
 }
 
 // 01, Refusals, 9; 02, item 4: a remaining segment's headers, what they name, or its serials; repeated: a present drive bears its serial twice.
@@ -351,14 +311,7 @@ fn zone_footer_fault(p: Params, image: &[u8], pointers: &[u8], drive: usize, zon
     ensures { (off : List ℕ) → result ≡ footer_fault_in p (zone_at (view_of p off image.now pointers.now) drive zone) }
 {
     let n = disk_stored::footers_stored(p, pointers, drive, zone);
-    let mut i = 0;
-    while i < n {
-        if footer_differs(p, image, drive, zone, i) {
-            return true;
-        }
-        i += 1;
-    }
-    false
+    (0..n).any(|i| footer_differs(p, image, drive, zone, i))
 }
 
 // The same of any drive; a missing one is not looked at.
@@ -392,12 +345,5 @@ pub fn footer_fault(p: Params, image: &[u8], pointers: &[u8], gone: u8, segment:
         → result
         ≡ any (λ d. footer_fault_in p (get_or (segment_of p (view_of p off image.now pointers.now) gone segment).zones_by_holds d no_zone)) (present p gone) }
 {
-    let mut d = 0;
-    while d < p.N {
-        if drive_footer_fault(p, image, pointers, gone, d, segment) {
-            return true;
-        }
-        d += 1;
-    }
-    false
+    (0..p.N).any(|d| drive_footer_fault(p, image, pointers, gone, d, segment))
 }

@@ -1,5 +1,5 @@
 -- Counted stripes are moved into another segment: the stores that are left to do fit, and the segment that is read stays (01, Restart, 4). Assumes nothing.
-use Rattle.std.specs.Prelude.{ℕ, suc, ◌+◌, ◌-◌, ◌≤◌, ◌<◌, eqb, length, true, false, ◌&&◌, List, [], ◌∷◌, ◌++◌, map, ◌≡◌}
+use Rattle.std.specs.Prelude.{ℕ, suc, ◌+◌, ◌-◌, ◌≤◌, ◌<◌, eqb, length, Result, Ok, false, ◌&&◌, List, [], ◌∷◌, ◌++◌, map, ◌≡◌}
 use Rattle.spec.specs.Drives.{zone_at, Store, Disk, pointer_of, zone_on, sealed_in}
 use Rattle.spec.specs.Drives.Store.{put}
 use Rattle.spec.specs.Layout.{Rec, record_bytes}
@@ -20,8 +20,8 @@ use Rattle.law_drives.specs.Settled.{zones_sealed, zones_segment}
 use Rattle.law_drives.specs.Tests.{and_false_right, cond_false}
 use Rattle.law_drives.specs.Zones.{hits_at_of, hits}
 use Rattle.law_views.specs.Views.{Whole, pointer_view, AllFit, seen}
-use Rattle.disk_zones.specs.Made.{Storing}
-use Rattle.disk_zones.specs.declared.Made.{Made}
+use Rattle.disk_zones.specs.Made.{too_few, Storing}
+use Rattle.disk_zones.specs.declared.TooFew.{TooFew}
 use Rattle.std.proofs.Common.{ne_eqb, append-nil, append_assoc, sym, ap₂, ◌∙◌, add-zero, arith}
 use Rattle.std.proofs.Math.Path.{refl, ap, subst}
 use Rattle.spec.specs.declared.Seg.{Seg}
@@ -102,21 +102,21 @@ pub moves_as : (p : Params) (off : List ℕ) (n : ℕ) (ss : List Store) (k₀ :
     → Moves p off n ss k₀ sgm us left k
 moves_as p off n ss k₀ sgm ts us left k e g = subst (λ (l : List Store). Moves p off n ss k₀ sgm l left k) e g
 
-pub moves_turn : (p : Params) (r : Ranged p) (off : List ℕ) (n : ℕ) (ss : List Store) (k₀ : Disk) (sgm : Seg) → ZonesLow p 0 sgm → (ts us : List Store) (left : ℕ) (k : Disk) (m : Made)
+pub moves_turn : (p : Params) (r : Ranged p) (off : List ℕ) (n : ℕ) (ss : List Store) (k₀ : Disk) (sgm : Seg) → ZonesLow p 0 sgm → (ts us : List Store) (left : ℕ) (k : Disk) (y : ℕ)
     (k' : Disk)
-    → Moves p off n ss k₀ sgm (ts ++ us) left k → Storing p left ts k m k' → m.cut ≡ false → ((e : ℕ) → e < p.N → hits e (zone_on sgm e) ts ≡ [])
-    → Moves p off n ss k₀ sgm us m.left k'
-moves_turn p r off n ss k₀ sgm hz ts us left k m k' g s c q = record {
-  going = going_turn p r off n ss k₀ ts us left k m k' g.going s c;
-  same = λ e he. g.same e he ∙ sym (going_kept p r off n ss k₀ ts us left k m k' g.going s c e (zone_on sgm e) he (low_here p sgm e hz he) (q e he));
+    → Moves p off n ss k₀ sgm (ts ++ us) left k → Storing p left ts k (Ok y) k' → ((e : ℕ) → e < p.N → hits e (zone_on sgm e) ts ≡ [])
+    → Moves p off n ss k₀ sgm us y k'
+moves_turn p r off n ss k₀ sgm hz ts us left k y k' g s q = record {
+  going = going_turn p r off n ss k₀ ts us left k y k' g.going s;
+  same = λ e he. g.same e he ∙ sym (going_kept p r off n ss k₀ ts us left k y k' g.going s e (zone_on sgm e) he (low_here p sgm e hz he) (q e he));
 }
 
-pub moves_cut : (p : Params) (off : List ℕ) (n : ℕ) (ss : List Store) (k₀ : Disk) (sgm : Seg) (ts us : List Store) (left : ℕ) (k : Disk) (m : Made) (k' : Disk)
-    → Moves p off n ss k₀ sgm (ts ++ us) left k → Storing p left ts k m k' → m.cut ≡ true → Storing p n ss k₀ m k'
-moves_cut p off n ss k₀ sgm ts us left k m k' g s c = owes_cut p n ss k₀ ts us left k m k' g.going.owes s c
+pub moves_cut : (p : Params) (off : List ℕ) (n : ℕ) (ss : List Store) (k₀ : Disk) (sgm : Seg) (ts us : List Store) (left : ℕ) (k k' : Disk)
+    → Moves p off n ss k₀ sgm (ts ++ us) left k → Storing p left ts k too_few k' → Storing p n ss k₀ too_few k'
+moves_cut p off n ss k₀ sgm ts us left k k' g s = owes_cut p n ss k₀ ts us left k k' g.going.owes s
 
 pub moves_done : (p : Params) (off : List ℕ) (n : ℕ) (ss : List Store) (k₀ : Disk) (sgm : Seg) (left : ℕ) (k : Disk) → Moves p off n ss k₀ sgm [] left k
-    → Storing p n ss k₀ (record { left = left; cut = false }) k
+    → Storing p n ss k₀ (Ok left) k
 moves_done p off n ss k₀ sgm left k g = owes_done p n ss k₀ left k g.going.owes
 
 pub moves_first : (p : Params) (off : List ℕ) (n : ℕ) (ss : List Store) (k₀ : Disk) (sgm : Seg) (ts us : List Store) (left : ℕ) (k : Disk) → Moves p off n ss k₀ sgm (ts ++ us) left k
@@ -177,7 +177,7 @@ module _ (p : Params) (r : Ranged p) (off : List ℕ) (n : ℕ) (k₀ : Disk) (w
       (moves_start p off n (moved_stripe p x z s m) k₀ w.seg wh f)
 
   module _ (d left : ℕ) (k : Disk) (g : RowMoves d left k) where
-    pub row_done : p.N ≤ d → Storing p n (moved_stripe p x z s m) k₀ (record { left = left; cut = false }) k
+    pub row_done : p.N ≤ d → Storing p n (moved_stripe p x z s m) k₀ (Ok left) k
     row_done h =
         moves_done p off n (moved_stripe p x z s m) k₀ w.seg left k
         (moves_as p off n (moved_stripe p x z s m) k₀ w.seg (map each (up_from d (p.N - d))) [] left k (ap (map each) (up_from_end d p.N h)) g)
@@ -196,25 +196,28 @@ module _ (p : Params) (r : Ranged p) (off : List ℕ) (n : ℕ) (k₀ : Disk) (w
           as! : AllFit p (seen p off k) (each d ∷ []) → pointer_of p k.pointers d (zone_on z d) < capacity p
           as! f = unfold moved_to put_piece in subst (λ (y : ℕ). y < capacity p) (pointer_view p off k d (zone_on z d) f.0.0 f.0.1 g.going.whole) f.0.2
 
-      module _ (made : Made) (k' : Disk) (st : Storing p left (moved_to p (segment_in p off k.image k.pointers w) z s m d ∷ []) k made k') where
-        piece_stored : Storing p left (each d ∷ []) k made k'
-        piece_stored =
-            subst (λ (y : Segment). Storing p left (moved_to p y z s m d ∷ []) k made k')
-            (sym (moves_in p r off n (moved_stripe p x z s m) k₀ w.seg (map each (up_from d (p.N - d))) left k g w ng refl)) st
+      -- its store, by the bytes
+      abbrev due : List Store
+      due = moved_to p (segment_in p off k.image k.pointers w) z s m d ∷ []
 
-        pub row_cut : made.cut ≡ true → Storing p n (moved_stripe p x z s m) k₀ made k'
-        row_cut c = moves_cut p off n (moved_stripe p x z s m) k₀ w.seg (each d ∷ []) rest left k made k' drive_piece_step piece_stored c
+      piece_stored : (made : Result ℕ TooFew) (k' : Disk) → Storing p left due k made k' → Storing p left (each d ∷ []) k made k'
+      piece_stored made k' =
+          subst (λ (y : Segment). Storing p left (moved_to p y z s m d ∷ []) k made k')
+          (sym (moves_in p r off n (moved_stripe p x z s m) k₀ w.seg (map each (up_from d (p.N - d))) left k g w ng refl))
 
-        pub row_turn : made.cut ≡ false → RowMoves (d + 1) made.left k'
-        row_turn c =
-            moves_turn p r off n (moved_stripe p x z s m) k₀ w.seg hw (each d ∷ []) rest left k made k' drive_piece_step piece_stored c
-            (λ e he. one_misses p x z s m d e w.seg he ne)
+      pub row_cut : (k' : Disk) → Storing p left due k too_few k' → Storing p n (moved_stripe p x z s m) k₀ too_few k'
+      row_cut k' st = moves_cut p off n (moved_stripe p x z s m) k₀ w.seg (each d ∷ []) rest left k k' drive_piece_step (piece_stored too_few k' st)
+
+      pub row_turn : (y : ℕ) (k' : Disk) → Storing p left due k (Ok y) k' → RowMoves (d + 1) y k'
+      row_turn y k' st =
+          moves_turn p r off n (moved_stripe p x z s m) k₀ w.seg hw (each d ∷ []) rest left k y k' drive_piece_step (piece_stored (Ok y) k' st)
+          (λ e he. one_misses p x z s m d e w.seg he ne)
 
 -- ---- one chunk
 
 -- the put of a chunk that is worked out
 pub put-moved :
-    (p : Params) (n : ℕ) (g : Segment) (to : Seg) (s m d z : ℕ) (b sp : List ℕ) (q : Rec) (k : Disk) (made : Made) (k' : Disk)
+    (p : Params) (n : ℕ) (g : Segment) (to : Seg) (s m d z : ℕ) (b sp : List ℕ) (q : Rec) (k : Disk) (made : Result ℕ TooFew) (k' : Disk)
     → z ≡ zone_on to d
     → mk_piece b q ≡ moved_on p (moved_pieces p g s m) m d
     → sp ≡ record_bytes q

@@ -16,7 +16,7 @@ ghost use Rattle.disk_zones.specs.Made.{Storing};
 ghost use Rattle.law_basic.specs.Segs.{ZonesLow};
 
 use disk_records::Record;
-use disk_zones::Made;
+use disk_zones::TooFew;
 use recover_groups::Group;
 use spec::{Address, Params, Seg, Stamp};
 
@@ -41,14 +41,11 @@ fn moved_data(
         (stored_piece (segment_in p off image.now ps w) (w.base + k) (data_drive p (w.base + k) i)) }
 {
     let from = disk_shape::data_drive(p, w.base + k, i);
-    recover_groups::copy_block(p, image, w, at, from, k, block);
+    disk_blocks::copy(block, recover_groups::chunk_block(p, image, w, at, from, k));
     let r = recover_groups::stored_rec(p, image, w, at, from, k);
-    let address = r.address;
-    let stamp = r.stamp;
     Record {
-        address,
-        stamp,
         stripe: s as u32,
+        ..r
     }
 }
 
@@ -76,12 +73,10 @@ fn moved_parity(
         stamp: Stamp(0),
         stripe: s as u32,
     };
-    let mut i = 0;
-    while i < p.N - 1 {
+    for i in 0..p.N - 1 {
         let from = disk_shape::data_drive(p, w.base + k, i);
-        recover_groups::xor_block(p, image, w, at, from, k, block);
+        disk_blocks::xor_into(block, recover_groups::chunk_block(p, image, w, at, from, k));
         r = recover_groups::xor_rec(r, recover_groups::stored_rec(p, image, w, at, from, k));
-        i += 1;
     }
     r
 }
@@ -125,7 +120,7 @@ fn move_with(
     drive: usize,
     block: &mut [u8],
     count: u64,
-) -> Made
+) -> Result<u64, TooFew>
     requires p_value { in_range p ≡ true }
     requires whole { Whole p (mk_disk image.old pointers.old) }
     requires moves_shown { MovesShown p w at.now k }
@@ -155,7 +150,7 @@ fn move_chunk(
     s: usize,
     drive: usize,
     count: u64,
-) -> Made
+) -> Result<u64, TooFew>
     requires p_value { in_range p ≡ true }
     requires whole { Whole p (mk_disk image.old pointers.old) }
     requires moves_shown { MovesShown p w at.now k }
@@ -194,7 +189,7 @@ pub fn move_stripe(
     to: Seg,
     s: usize,
     count: u64,
-) -> Made
+) -> Result<u64, TooFew>
     requires p_value { in_range p ≡ true }
     requires whole { Whole p (mk_disk image.old pointers.old) }
     requires moves_shown { MovesShown p w at.now k }
@@ -207,14 +202,8 @@ pub fn move_stripe(
         (mk_disk image.old pointers.old) result (mk_disk image.new pointers.new) }
 {
     let mut left = count;
-    let mut d = 0;
-    while d < p.N {
-        let made = move_chunk(p, image, pointers, w, at, k, to, s, d, left);
-        if made.cut {
-            return made;
-        }
-        left = made.left;
-        d += 1;
+    for d in 0..p.N {
+        left = move_chunk(p, image, pointers, w, at, k, to, s, d, left)?;
     }
-    Made { left, cut: false }
+    Ok(left)
 }

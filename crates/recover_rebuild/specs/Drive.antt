@@ -1,5 +1,5 @@
 -- The rebuild of a drive: resets, then each flagged segment by rising serial (01, Rebuild; 02, item 4). Assumes nothing.
-use Rattle.std.specs.Prelude.{◌≡◌, Bool, true, false, ◌&&◌, eqb, length}
+use Rattle.std.specs.Prelude.{Result, Ok, ◌≡◌, Bool, true, false, ◌&&◌, eqb, length}
 use Rattle.std.proofs.Math.Path.{refl, sym, ap}
 use Rattle.std.proofs.Common.{◌∙◌, subst, ne_eqb, eqb-true, arith}
 use mathlib.Core.List.{List, [], ◌∷◌, ◌++◌, map}
@@ -32,8 +32,8 @@ use Rattle.law_drives.specs.Zones.{hits_at_of, zone_store, hits, zone_after, res
 use Rattle.law_restart.specs.Frames.{seen-after}
 use Rattle.recover_drop.specs.AnyList.{fits_alike, segment_alike}
 use Rattle.recover_drop.specs.Going.{going_kept, going_first}
-use Rattle.disk_zones.specs.declared.Made.{Made}
-use Rattle.disk_zones.specs.Made.{Storing, storing_all}
+use Rattle.disk_zones.specs.declared.TooFew.{TooFew}
+use Rattle.disk_zones.specs.Made.{too_few, Storing, storing_all}
 use Rattle.disk_gather.specs.Flags.{Serials, Keeps, FlagsRows}
 use Rattle.disk_gather.specs.Found.{remains_leads, kept_serial}
 use Rattle.recover_groups.specs.Faulty.{no_recs_fault}
@@ -188,7 +188,7 @@ module _ (p : Params) (off : List ℕ) (d n : ℕ) (flags : List Bool) (ns rows 
   zones_start w f e = record { moving = moving_start p off (named d) n (zones_stores p d (seen p off k₀) flags ns rows 0) k₀ w f; empty = e }
 
   pub zones_done : (last left : ℕ) (k : Disk) → Zones last left k → (z : ℕ) → RisingNext p.Z flags ns last p.Z z → p.Z ≤ z
-      → Storing p n (zones_stores p d (seen p off k₀) flags ns rows 0) k₀ (record { left = left; cut = false }) k
+      → Storing p n (zones_stores p d (seen p off k₀) flags ns rows 0) k₀ (Ok left) k
   zones_done last left k s z x h =
       moving_done p off (named d) n (zones_stores p d (seen p off k₀) flags ns rows 0) k₀ left k
       (moving_as p off (named d) n (zones_stores p d (seen p off k₀) flags ns rows 0) k₀ (zones_stores p d (seen p off k₀) flags ns rows last) [] left k none! s.moving)
@@ -232,18 +232,18 @@ module _ (p : Params) (r : Ranged p) (off : List ℕ) (d n : ℕ) (hd : d < p.N)
       sym (same_recs_fault p (named d) (seen p off k₀) (seen p off k) (named_here p r d hd) s.moving.agree (moving_list p off k₀ k) (seg (part (8 * z) 8 rows)) (ra.zones_low z hz flag!))
       ∙ h z hz flag!
 
-  module _ (m : Made) (k' : Disk) (t : Storing p left (rebuilt_zone p d (segment_of p (seen p off k) (named d) (seg (part (8 * z) 8 rows)))) k m k') where
-    this : Storing p left ours k m k'
-    this = subst (λ (l : List Store). Storing p left l k m k') zone_stores_same t
+  pub zones_cut : (k' : Disk) → Storing p left (rebuilt_zone p d (segment_of p (seen p off k) (named d) (seg (part (8 * z) 8 rows)))) k too_few k' → Storing p n whole! k₀ too_few k'
+  zones_cut k' t = moving_cut p off (named d) n whole! k₀ ours rest left k zone_step k' (subst (λ (l : List Store). Storing p left l k too_few k') zone_stores_same t)
 
-    pub zones_cut : m.cut ≡ true → Storing p n whole! k₀ m k'
-    zones_cut c = moving_cut p off (named d) n whole! k₀ ours rest left k m k' zone_step this c
+  module _ (l : ℕ) (k' : Disk) (t : Storing p left (rebuilt_zone p d (segment_of p (seen p off k) (named d) (seg (part (8 * z) 8 rows)))) k (Ok l) k') where
+    this : Storing p left ours k (Ok l) k'
+    this = subst (λ (x : List Store). Storing p left x k (Ok l) k') zone_stores_same t
 
     on : OnDrive d ours
     on e y q = one_apart p d (seen p off k₀) rows z e y (drive_apart d e (zone_on (seg (part (8 * z) 8 rows)) d) y q)
 
-    pub zones_turn : m.cut ≡ false → Zones p off d n flags ns rows k₀ (get_or ns z 0) m.left k'
-    zones_turn c = record {
+    pub zones_turn : Zones p off d n flags ns rows k₀ (get_or ns z 0) l k'
+    zones_turn = record {
       moving = next;
       empty = λ y hy f g.
           let w : ℕ = zone_on (seg (part (8 * y) 8 rows)) d in
@@ -252,8 +252,8 @@ module _ (p : Params) (r : Ranged p) (off : List ℕ) (d n : ℕ) (hd : d < p.N)
           ∙ s.empty y hy f (let i : last < get_or ns z 0 = (x.is_one hz).1 in omega arith);
     }
       where
-        next : Moving p off (named d) n whole! k₀ rest m.left k'
-        next = moving_turn p off (named d) n whole! k₀ ours rest left k m k' zone_step this r d (named_in p r d hd) on c
+        next : Moving p off (named d) n whole! k₀ rest l k'
+        next = moving_turn p off (named d) n whole! k₀ ours rest left k zone_step l k' this r d (named_in p r d hd) on
 
         other : (y : ℕ) → y < p.Z → get_or flags y false ≡ true → get_or ns z 0 < get_or ns y 0
             → eqb (zone_on (seg (part (8 * z) 8 rows)) d) (zone_on (seg (part (8 * y) 8 rows)) d) ≡ false
@@ -263,7 +263,7 @@ module _ (p : Params) (r : Ranged p) (off : List ℕ) (d n : ℕ) (hd : d < p.N)
         as! : (y : ℕ) → y < p.Z → get_or flags y false ≡ true → get_or ns z 0 < get_or ns y 0
             → pointer_at (seen p off k') d (zone_on (seg (part (8 * y) 8 rows)) d) ≡ pointer_at (seen p off k) d (zone_on (seg (part (8 * y) 8 rows)) d)
         as! y hy f g = unfold pointer_at in ap (λ (q : Zone). q.pointer)
-            (going_kept p r off n whole! k₀ ours rest left k m k' zone_step.going this c d (zone_on (seg (part (8 * y) 8 rows)) d) hd (ra.zone_low y hy f)
+            (going_kept p r off n whole! k₀ ours rest left k l k' zone_step.going this d (zone_on (seg (part (8 * y) 8 rows)) d) hd (ra.zone_low y hy f)
             (one_apart p d (seen p off k₀) rows z d (zone_on (seg (part (8 * y) 8 rows)) d)
             (and_false_right (eqb d d) (eqb (zone_on (seg (part (8 * z) 8 rows)) d) (zone_on (seg (part (8 * y) 8 rows)) d)) (other y hy f g))))
 
@@ -292,7 +292,7 @@ reset_hit p off d z hz g =
     go y (no! q) = and_false_right (is_good p off d y) (eqb y z) q ∙ sym q
 
 module _ (p : Params) (r : Ranged p) (off : List ℕ) (d n : ℕ) (hd : d < p.N) (flags : List Bool) (ns rows : List ℕ) (ra : RowsApart p d flags ns rows) (k₀ : Disk) (w : Whole p k₀)
-    (fits : AllFit p (seen p off k₀) (drive_stores p off d (seen p off k₀) flags ns rows)) (m : Made) (k : Disk) (t : Storing p n (drive_resets p off d) k₀ m k) where
+    (fits : AllFit p (seen p off k₀) (drive_stores p off d (seen p off k₀) flags ns rows)) where
   abbrev every : List Store
   every = drive_stores p off d (seen p off k₀) flags ns rows
 
@@ -305,12 +305,12 @@ module _ (p : Params) (r : Ranged p) (off : List ℕ) (d n : ℕ) (hd : d < p.N)
       as! : drive_stores p off d (seen p off k₀) flags ns rows ≡ drive_resets p off d ++ zones_stores p d (seen p off k₀) flags ns rows 0
       as! = unfold drive_stores in refl
 
-  pub resets-cut : m.cut ≡ true → Storing p n every k₀ m k
-  resets-cut c = moving_cut p off (named d) n every k₀ (drive_resets p off d) zones! n k₀ m k drive_begun t c
+  pub resets-cut : (k : Disk) → Storing p n (drive_resets p off d) k₀ too_few k → Storing p n every k₀ too_few k
+  resets-cut k t = moving_cut p off (named d) n every k₀ (drive_resets p off d) zones! n k₀ drive_begun k t
 
-  module _ (c : m.cut ≡ false) where
-    empty! : Moving p off (named d) n every k₀ zones! m.left k
-    empty! = moving_turn p off (named d) n every k₀ (drive_resets p off d) zones! n k₀ m k drive_begun t r d (named_in p r d hd) (resets_apart p off d) c
+  module _ (l : ℕ) (k : Disk) (t : Storing p n (drive_resets p off d) k₀ (Ok l) k) where
+    empty! : Moving p off (named d) n every k₀ zones! l k
+    empty! = moving_turn p off (named d) n every k₀ (drive_resets p off d) zones! n k₀ drive_begun l k t r d (named_in p r d hd) (resets_apart p off d)
 
     pub resets_whole : Whole p k
     resets_whole = empty!.going.whole
@@ -344,7 +344,7 @@ module _ (p : Params) (r : Ranged p) (off : List ℕ) (d n : ℕ) (hd : d < p.N)
         zone! z hz g =
             ap (λ (v : View). zone_at v d z) (seen-after p r off k₀ k (drive_resets p off d) w
             (going_first p off n every k₀ (drive_resets p off d) zones! n k₀ drive_begun.going)
-            (storing_all p n (drive_resets p off d) k₀ m k t c))
+            (storing_all p n (drive_resets p off d) k₀ l k t))
             ∙ zone_after p (seen p off k₀) d z (drive_resets p off d) (sized_of p off k₀ w) hd hz
             ∙ ap (λ (l : List Store). store_all zone_store l (zone_at (seen p off k₀) d z)) (reset_hit p off d z hz g)
 
@@ -357,5 +357,5 @@ module _ (p : Params) (r : Ranged p) (off : List ℕ) (d n : ℕ) (hd : d < p.N)
         empty_zone : (z : ℕ) → z < p.Z → is_good p off d z ≡ true → pointer_of p k.pointers d z ≡ 0
         empty_zone z hz g = sym (pointer_view p off k d z hd hz resets_whole) ∙ as! z hz g
 
-    pub resets-made : (m' : Made) (k' : Disk) → Storing p m.left (zones_stores p d (seen p off k) flags ns rows 0) k m' k' → Storing p n every k₀ m' k'
-    resets-made m' k' s = empty!.going.owes m' k' (subst (λ (l : List Store). Storing p m.left l k m' k') (sym zones_stores_same) s)
+    pub resets-made : (m' : Result ℕ TooFew) (k' : Disk) → Storing p l (zones_stores p d (seen p off k) flags ns rows 0) k m' k' → Storing p n every k₀ m' k'
+    resets-made m' k' s = empty!.going.owes m' k' (subst (λ (x : List Store). Storing p l x k m' k') (sym zones_stores_same) s)

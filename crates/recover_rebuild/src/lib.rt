@@ -14,7 +14,7 @@ ghost use Rattle.recover_rebuild.specs.Rising.{RisingNext};
 ghost use Rattle.law_views.specs.Views.{Whole, AllFit};
 ghost use Rattle.disk_zones.specs.Made.{Storing};
 
-use disk_zones::Made;
+use disk_zones::TooFew;
 use spec::{Params, Seg, Serial};
 
 // 01, Rebuild: behind the header: the chunks, and the footers if the survivors' zones are full. Then all S stripes count, and their records
@@ -28,7 +28,7 @@ fn rebuild_data(
     full: bool,
     drive: usize,
     count: u64,
-) -> Made
+) -> Result<u64, TooFew>
     requires p_value { in_range p ≡ true }
     requires whole { Whole p (mk_disk image.old pointers.old) }
     requires gone_value { (gone ≡ named drive) × (drive < p.N) × ZonesLow p (named drive) seg × (pointer_of p pointers.old drive (zone_on seg drive) ≡ 1) × (zone_on seg drive < p.Z) }
@@ -40,16 +40,13 @@ fn rebuild_data(
         → Storing p count (lost_rest p drive (segment_of p (view_of p off image.old pointers.old) (named drive) seg))
         (mk_disk image.old pointers.old) result (mk_disk image.new pointers.new) }
 {
-    let made = recover_decode::put_groups(p, image, pointers, gone, seg, full, drive, count);
-    if made.cut {
-        return made;
-    }
+    let left = recover_decode::put_groups(p, image, pointers, gone, seg, full, drive, count)?;
     if !full {
-        return made;
+        return Ok(left);
     }
     let zone = disk_shape::zone_on(p, seg, drive);
     let n = disk_shape::footers(p);
-    disk_footers::footer_stores(p, image, pointers, drive, zone, 0, n, made.left)
+    disk_footers::footer_stores(p, image, pointers, drive, zone, 0, n, left)
 }
 
 // 01, Rebuild: the drive's zone of a segment.
@@ -61,7 +58,7 @@ fn rebuild_zone(
     seg: Seg,
     drive: usize,
     count: u64,
-) -> Made
+) -> Result<u64, TooFew>
     requires p_value { in_range p ≡ true }
     requires whole { Whole p (mk_disk image.old pointers.old) }
     requires gone_value { (gone ≡ named drive) × (drive < p.N) × ZonesLow p (named drive) seg × (pointer_of p pointers.old drive (zone_on seg drive) ≡ 0) × (zone_on seg drive < p.Z) }
@@ -76,11 +73,8 @@ fn rebuild_zone(
     let serial = recover_segments::serial_on(p, image, low, seg);
     let copied = recover_segments::copied_on(p, image, low, seg);
     let full = disk_zones::is_sealed(p, pointers, gone, seg);
-    let made = recover_reset::put_header(p, image, pointers, drive, seg, serial, copied, count);
-    if made.cut {
-        return made;
-    }
-    rebuild_data(p, image, pointers, gone, seg, full, drive, made.left)
+    let left = recover_reset::put_header(p, image, pointers, drive, seg, serial, copied, count)?;
+    rebuild_data(p, image, pointers, gone, seg, full, drive, left)
 }
 
 // ---- by rising serial
@@ -113,10 +107,8 @@ fn next_zone(p: Params, kept: &[bool], serials: &[u64], last: Serial) -> usize
     ensures { RisingNext p.Z kept.now serials.now last.0 p.Z result }
 {
     let mut next = p.Z;
-    let mut z = 0;
-    while z < p.Z {
+    for z in 0..p.Z {
         next = sooner(p, kept, serials, last, next, z);
-        z += 1;
     }
     next
 }
@@ -132,7 +124,7 @@ fn rebuild_zones(
     rows: &[u32],
     drive: usize,
     count: u64,
-) -> Made
+) -> Result<u64, TooFew>
     requires p_value { in_range p ≡ true }
     requires whole { Whole p (mk_disk image.old pointers.old) }
     requires gone_value { (gone ≡ named drive) × (drive < p.N) × RowsApart p drive kept.now serials.now rows.now }
@@ -150,15 +142,11 @@ fn rebuild_zones(
     let mut z = next_zone(p, kept, serials, Serial(last));
     while z < p.Z {
         let segment = disk_gather::row(rows, z);
-        let made = rebuild_zone(p, image, pointers, gone, segment, drive, left);
-        if made.cut {
-            return made;
-        }
-        left = made.left;
+        left = rebuild_zone(p, image, pointers, gone, segment, drive, left)?;
         last = serials[z];
         z = next_zone(p, kept, serials, Serial(last));
     }
-    Made { left, cut: false }
+    Ok(left)
 }
 
 // 01, Rebuild: resets the named drive, then each remaining segment, under a store count; 02, item 4: the good zones, and the lower serial first.
@@ -173,7 +161,7 @@ pub fn rebuild_stores(
     rows: &[u32],
     drive: usize,
     count: u64,
-) -> Made
+) -> Result<u64, TooFew>
     requires p_value { in_range p ≡ true }
     requires whole { Whole p (mk_disk image.old pointers.old) × (length offline.now ≡ offline_len p) }
     requires gone_value { (gone ≡ named drive) × (drive < p.N) × RowsApart p drive kept.now serials.now rows.now × GoodZones p offline.now drive kept.now rows.now }
@@ -185,11 +173,6 @@ pub fn rebuild_stores(
         rows.now)
         (mk_disk image.old pointers.old) result (mk_disk image.new pointers.new) }
 {
-    let made = recover_reset::reset_drive(p, pointers, offline, drive, count);
-    if made.cut {
-        return made;
-    }
-    rebuild_zones(
-        p, image, pointers, gone, kept, serials, rows, drive, made.left,
-    )
+    let left = recover_reset::reset_drive(p, pointers, offline, drive, count)?;
+    rebuild_zones(p, image, pointers, gone, kept, serials, rows, drive, left)
 }

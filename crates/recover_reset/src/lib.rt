@@ -9,7 +9,7 @@ ghost use Rattle.spec.specs.Params.{in_range, capacity, unit_len, pointers_len, 
 ghost use Rattle.law_views.specs.Views.{Whole};
 ghost use Rattle.disk_zones.specs.Made.{Storing};
 
-use disk_zones::Made;
+use disk_zones::TooFew;
 use spec::{Params, Seg, Serial};
 
 // A zone's reset, if it is good, under a store count.
@@ -20,7 +20,7 @@ fn reset_good(
     drive: usize,
     zone: usize,
     count: u64,
-) -> Made
+) -> Result<u64, TooFew>
     requires p_value { in_range p ≡ true }
     requires pointers_len { (length pointers.old ≡ pointers_len p) × (length offline.now ≡ offline_len p) × (drive < p.N) × (zone < p.Z) }
     ensures { (im : List ℕ)
@@ -28,32 +28,29 @@ fn reset_good(
         (mk_disk im pointers.new) }
 {
     if !disk_zones::is_good(p, offline, drive, zone) {
-        return Made {
-            left: count,
-            cut: false,
-        };
+        return Ok(count);
     }
     recover_drop::reset_limited(p, pointers, drive, zone, count)
 }
 
 // 01, Rebuild: resets the named drive; 02, item 4: its good zones, empty ones too, under a store count; the image is left as it is.
-pub fn reset_drive(p: Params, pointers: &mut [u8], offline: &[u8], drive: usize, count: u64) -> Made
+pub fn reset_drive(
+    p: Params,
+    pointers: &mut [u8],
+    offline: &[u8],
+    drive: usize,
+    count: u64,
+) -> Result<u64, TooFew>
     requires p_value { in_range p ≡ true }
     requires pointers_len { (length pointers.old ≡ pointers_len p) × (length offline.now ≡ offline_len p) × (drive < p.N) }
     ensures { (im : List ℕ)
         → Storing p count (map (reset drive) (good_zones p offline.now drive)) (mk_disk im pointers.old) result (mk_disk im pointers.new) }
 {
     let mut left = count;
-    let mut z = 0;
-    while z < p.Z {
-        let made = reset_good(p, pointers, offline, drive, z, left);
-        if made.cut {
-            return made;
-        }
-        left = made.left;
-        z += 1;
+    for z in 0..p.Z {
+        left = reset_good(p, pointers, offline, drive, z, left)?;
     }
-    Made { left, cut: false }
+    Ok(left)
 }
 
 // 01, Rebuild: the header of a segment in the drive's zone, under a store count; unit is room for a header with its spare, spare is all zero.
@@ -69,7 +66,7 @@ fn put_header_with(
     serial: Serial,
     copied: Serial,
     count: u64,
-) -> Made
+) -> Result<u64, TooFew>
     requires p_value { in_range p ≡ true }
     requires whole { Whole p (mk_disk image.old pointers.old) }
     requires drive_lt_n { (drive < p.N) × (zone < p.Z) × (pointer_of p pointers.old drive zone < capacity p) × (length unit.old ≡ unit_len p) × (spare.now ≡ zero_spare) }
@@ -91,7 +88,7 @@ pub fn put_header(
     serial: Serial,
     copied: Serial,
     count: u64,
-) -> Made
+) -> Result<u64, TooFew>
     requires p_value { in_range p ≡ true }
     requires whole { Whole p (mk_disk image.old pointers.old) }
     requires drive_lt_n { (drive < p.N) × (zone_on segment drive < p.Z) × (pointer_of p pointers.old drive (zone_on segment drive) < capacity p) }

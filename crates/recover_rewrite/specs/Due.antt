@@ -1,5 +1,5 @@
 -- The counted stripes that are still to be moved, numbered on (01, Restart, 4). Assumes nothing.
-use Rattle.std.specs.Prelude.{ℕ, suc, ◌+◌, ◌-◌, ◌*◌, ◌%◌, ◌≤◌, ◌<◌, length, Bool, true, List, [], ◌∷◌, ◌++◌, ◌≡◌}
+use Rattle.std.specs.Prelude.{ℕ, suc, ◌+◌, ◌-◌, ◌*◌, ◌%◌, ◌≤◌, ◌<◌, length, Bool, true, Result, Ok, Err, IfOk, List, [], ◌∷◌, ◌++◌, ◌≡◌}
 use Rattle.spec.specs.Drives.{View, Store, Disk, sealed_in}
 use Rattle.spec.specs.Lists.{up_from, cons_if, keep}
 use Rattle.spec.specs.Restart.{moved_stripe, moved_stripes}
@@ -14,10 +14,9 @@ use Rattle.law_basic.specs.Segs.{ZonesLow}
 use Rattle.recover_move.specs.Moves.{OtherZones, moved_none, moved-one, moved-append, moved_misses, Moves, moves_start, moves_as, moves_turn, moves_cut, moves_done}
 use Rattle.recover_move.specs.Moves.{moves_first, moves_sealed, moves_in, moves_reads}
 use Rattle.recover_rewrite.specs.declared.Moved.{Moved}
-use Rattle.law_drives.specs.Tests.{clash}
 use Rattle.law_views.specs.Views.{Whole, AllFit, seen}
-use Rattle.disk_zones.specs.Made.{Storing, storing_none}
-use Rattle.disk_zones.specs.declared.Made.{Made}
+use Rattle.disk_zones.specs.Made.{too_few, Storing, storing_none}
+use Rattle.disk_zones.specs.declared.TooFew.{TooFew}
 use Rattle.std.proofs.Math.Arith.{digits_mod}
 use Rattle.std.proofs.Common.{length-append, sym, ap, ap₂, ◌∙◌, subst, add-zero, zero-mul}
 use Rattle.std.proofs.Math.Bool.{false}
@@ -90,27 +89,34 @@ from_all p g = ap (keep (counts p 0 g)) (below-start p.S)
 
 -- ---- what a part of the moves leaves
 
-abbrev pub made_by : Moved → Made
-made_by m = record { left = m.left; cut = m.cut }
+abbrev pub count_left : Result Moved TooFew → Result ℕ TooFew
+count_left (Ok m) = Ok m.left
+count_left (Err e) = Err e
 
 -- the stripes l are moved, numbered from m's next on
-pub record StepMoved (p : Params) (g : Segment) (to : Seg) (l : List ℕ) (m : Moved) (k : Disk) (r : Moved) (k' : Disk) : Type 0 where
-  pub stored : Storing p m.left (moved_stripes p g to l m.next) k (made_by r) k'
-  pub number : r.cut ≡ false → r.next ≡ m.next + length l
+pub record StepMoved (p : Params) (g : Segment) (to : Seg) (l : List ℕ) (m : Moved) (k : Disk) (r : Result Moved TooFew) (k' : Disk) : Type 0 where
+  pub stored : Storing p m.left (moved_stripes p g to l m.next) k (count_left r) k'
+  pub number : IfOk r (λ n. n.next ≡ m.next + length l)
 
-pub step_none : (p : Params) (g : Segment) (to : Seg) (l : List ℕ) (m : Moved) (k : Disk) → l ≡ [] → m.cut ≡ false → StepMoved p g to l m k m k
-step_none p g to l m k e c = subst (λ (x : List ℕ). StepMoved p g to x m k m k) (sym e) (record {
-  stored = subst (λ (x : List Store). Storing p m.left x k (made_by m) k) (sym (moved_none p g to m.next))
-      (subst (λ (b : Bool). Storing p m.left [] k (record { left = m.left; cut = b }) k) (sym c) (storing_none p m.left k));
-  number = λ q. sym (add-zero m.next);
+pub step_none : (p : Params) (g : Segment) (to : Seg) (l : List ℕ) (m : Moved) (k : Disk) → l ≡ [] → StepMoved p g to l m k (Ok m) k
+step_none p g to l m k e = subst (λ (x : List ℕ). StepMoved p g to x m k (Ok m) k) (sym e) (record {
+  stored = subst (λ (x : List Store). Storing p m.left x k (Ok m.left) k) (sym (moved_none p g to m.next)) (storing_none p m.left k);
+  number = sym (add-zero m.next);
 })
 
-pub step-one : (p : Params) (g : Segment) (to : Seg) (s : ℕ) (l : List ℕ) (m : Moved) (k : Disk) (made : Made) (k' : Disk) → l ≡ s ∷ []
-    → Storing p m.left (moved_stripe p g to s m.next) k made k'
-    → StepMoved p g to l m k (record { next = m.next + 1; left = made.left; cut = made.cut }) k'
-step-one p g to s l m k made k' e st = subst (λ (x : List ℕ). StepMoved p g to x m k (record { next = m.next + 1; left = made.left; cut = made.cut }) k') (sym e) (record {
-  stored = subst (λ (x : List Store). Storing p m.left x k made k') (sym (moved-one p g to s m.next)) st;
-  number = λ q. refl;
+pub step-one : (p : Params) (g : Segment) (to : Seg) (s : ℕ) (l : List ℕ) (m : Moved) (k : Disk) (y : ℕ) (k' : Disk) → l ≡ s ∷ []
+    → Storing p m.left (moved_stripe p g to s m.next) k (Ok y) k'
+    → StepMoved p g to l m k (Ok (record { next = m.next + 1; left = y })) k'
+step-one p g to s l m k y k' e st = subst (λ (x : List ℕ). StepMoved p g to x m k (Ok (record { next = m.next + 1; left = y })) k') (sym e) (record {
+  stored = subst (λ (x : List Store). Storing p m.left x k (Ok y) k') (sym (moved-one p g to s m.next)) st;
+  number = refl;
+})
+
+pub step_short : (p : Params) (g : Segment) (to : Seg) (s : ℕ) (l : List ℕ) (m : Moved) (k k' : Disk) → l ≡ s ∷ []
+    → Storing p m.left (moved_stripe p g to s m.next) k too_few k' → StepMoved p g to l m k (Err (record {})) k'
+step_short p g to s l m k k' e st = subst (λ (x : List ℕ). StepMoved p g to x m k (Err (record {})) k') (sym e) (record {
+  stored = subst (λ (x : List Store). Storing p m.left x k too_few k') (sym (moved-one p g to s m.next)) st;
+  number = tt;
 })
 
 -- ---- the parts one after the other: L in all, T still to be done
@@ -118,21 +124,19 @@ step-one p g to s l m k made k' e st = subst (λ (x : List ℕ). StepMoved p g t
 pub record MovedUpto (p : Params) (off : List ℕ) (g : Segment) (to sgm : Seg) (m₀ : Moved) (k₀ : Disk) (L T : List ℕ) (m : Moved) (k : Disk) : Type 0 where
   pub moves : Moves p off m₀.left (moved_stripes p g to L m₀.next) k₀ sgm (moved_stripes p g to T m.next) m.left k
   pub number : m.next + length T ≡ m₀.next + length L
-  pub uncut : m.cut ≡ false
 
 module _ (p : Params) (r : Ranged p) (off : List ℕ) (g : Segment) (to sgm : Seg) (hz : ZonesLow p 0 sgm) (ne : OtherZones p to sgm) (m₀ : Moved) (k₀ : Disk) (L : List ℕ) where
-  pub upto_start : Whole p k₀ → AllFit p (seen p off k₀) (moved_stripes p g to L m₀.next) → m₀.cut ≡ false → MovedUpto p off g to sgm m₀ k₀ L L m₀ k₀
-  upto_start w f c = record { moves = moves_start p off m₀.left (moved_stripes p g to L m₀.next) k₀ sgm w f; number = refl; uncut = c }
+  pub upto_start : Whole p k₀ → AllFit p (seen p off k₀) (moved_stripes p g to L m₀.next) → MovedUpto p off g to sgm m₀ k₀ L L m₀ k₀
+  upto_start w f = record { moves = moves_start p off m₀.left (moved_stripes p g to L m₀.next) k₀ sgm w f; number = refl }
 
   pub upto_as : (T U : List ℕ) (m : Moved) (k : Disk) → T ≡ U → MovedUpto p off g to sgm m₀ k₀ L T m k → MovedUpto p off g to sgm m₀ k₀ L U m k
   upto_as T U m k e u = subst (λ (x : List ℕ). MovedUpto p off g to sgm m₀ k₀ L x m k) e u
 
-  pub upto_done : (m : Moved) (k : Disk) → MovedUpto p off g to sgm m₀ k₀ L [] m k → StepMoved p g to L m₀ k₀ m k
+  pub upto_done : (m : Moved) (k : Disk) → MovedUpto p off g to sgm m₀ k₀ L [] m k → StepMoved p g to L m₀ k₀ (Ok m) k
   upto_done m k u = record {
-    stored = subst (λ (b : Bool). Storing p m₀.left (moved_stripes p g to L m₀.next) k₀ (record { left = m.left; cut = b }) k) (sym u.uncut)
-        (moves_done p off m₀.left (moved_stripes p g to L m₀.next) k₀ sgm m.left k
-        (moves_as p off m₀.left (moved_stripes p g to L m₀.next) k₀ sgm (moved_stripes p g to [] m.next) [] m.left k (moved_none p g to m.next) u.moves));
-    number = λ q. sym (add-zero m.next) ∙ u.number;
+    stored = moves_done p off m₀.left (moved_stripes p g to L m₀.next) k₀ sgm m.left k
+        (moves_as p off m₀.left (moved_stripes p g to L m₀.next) k₀ sgm (moved_stripes p g to [] m.next) [] m.left k (moved_none p g to m.next) u.moves);
+    number = sym (add-zero m.next) ∙ u.number;
   }
 
   module _ (A B : List ℕ) (m : Moved) (k : Disk) (u : MovedUpto p off g to sgm m₀ k₀ L (A ++ B) m k) where
@@ -147,21 +151,19 @@ module _ (p : Params) (r : Ranged p) (off : List ℕ) (g : Segment) (to sgm : Se
     pub upto_first : AllFit p (seen p off k) (moved_stripes p g to A m.next)
     upto_first = moves_first p off m₀.left ss k₀ sgm (moved_stripes p g to A m.next) (moved_stripes p g to B (m.next + length A)) m.left k stripes_parts
 
-    module _ (m' : Moved) (k' : Disk) (s : StepMoved p g to A m k m' k') where
-      pub upto_cut : m'.cut ≡ true → StepMoved p g to L m₀ k₀ m' k'
-      upto_cut c = record {
-        stored = moves_cut p off m₀.left ss k₀ sgm (moved_stripes p g to A m.next) (moved_stripes p g to B (m.next + length A)) m.left k (made_by m') k' stripes_parts s.stored c;
-        number = λ q. clash c q;
-      }
+    pub upto_cut : (k' : Disk) → StepMoved p g to A m k (Err (record {})) k' → StepMoved p g to L m₀ k₀ (Err (record {})) k'
+    upto_cut k' s = record {
+      stored = moves_cut p off m₀.left ss k₀ sgm (moved_stripes p g to A m.next) (moved_stripes p g to B (m.next + length A)) m.left k k' stripes_parts s.stored;
+      number = tt;
+    }
 
-      pub upto_turn : m'.cut ≡ false → MovedUpto p off g to sgm m₀ k₀ L B m' k'
-      upto_turn c = record {
-        moves = subst (λ (x : ℕ). Moves p off m₀.left ss k₀ sgm (moved_stripes p g to B x) m'.left k') (sym (s.number c))
-            (moves_turn p r off m₀.left ss k₀ sgm hz (moved_stripes p g to A m.next) (moved_stripes p g to B (m.next + length A)) m.left k
-            (made_by m') k' stripes_parts s.stored c (λ e he. moved_misses p g to A m.next e sgm he ne));
-        number = let e = s.number c in let f = u.number in let l = length-append A B in omega arith;
-        uncut = c;
-      }
+    pub upto_turn : (m' : Moved) (k' : Disk) → StepMoved p g to A m k (Ok m') k' → MovedUpto p off g to sgm m₀ k₀ L B m' k'
+    upto_turn m' k' s = record {
+      moves = subst (λ (x : ℕ). Moves p off m₀.left ss k₀ sgm (moved_stripes p g to B x) m'.left k') (sym s.number)
+          (moves_turn p r off m₀.left ss k₀ sgm hz (moved_stripes p g to A m.next) (moved_stripes p g to B (m.next + length A)) m.left k
+          m'.left k' stripes_parts s.stored (λ e he. moved_misses p g to A m.next e sgm he ne));
+      number = let e : m'.next ≡ m.next + length A = s.number in let f = u.number in let l = length-append A B in omega arith;
+    }
 
 -- ---- as the code goes
 
@@ -186,7 +188,7 @@ module _ (p : Params) (r : Ranged p) (off : List ℕ) (w : Group) (ng : w.gone �
   pub upto_reads : (at : List ℕ) → GroupReads p off k₀.image k₀.pointers w at → GroupReads p off k.image k.pointers w at
   upto_reads at x = moves_reads p r off m₀.left (moved_stripes p g₀ to L m₀.next) k₀ w.seg (moved_stripes p g₀ to T m.next) m.left k u.moves w ng refl at x
 
-  pub upto_step : (l : Segment → List ℕ) (m' : Moved) (k' : Disk) → StepMoved p (segment_in p off k.image k.pointers w) to (l (segment_in p off k.image k.pointers w)) m k m' k'
+  pub upto_step : (l : Segment → List ℕ) (m' : Result Moved TooFew) (k' : Disk) → StepMoved p (segment_in p off k.image k.pointers w) to (l (segment_in p off k.image k.pointers w)) m k m' k'
       → StepMoved p (segment_in p off k₀.image k₀.pointers w) to (l (segment_in p off k₀.image k₀.pointers w)) m k m' k'
   upto_step l m' k' s = subst (λ (g : Segment). StepMoved p g to (l g) m k m' k') (sym upto_in) s
 
@@ -201,7 +203,7 @@ group_at_of s b = record { gone = 0; seg = s; full = false; base = b }
 
 -- nothing is moved yet
 abbrev pub unmoved : ℕ → Moved
-unmoved n = record { next = 0; left = n; cut = false }
+unmoved n = record { next = 0; left = n }
 
 pub bases_first : (p : Params) → 0 < p.G → 0 % p.G ≡ 0
 bases_first p h = ap (λ (x : ℕ). x % p.G) (let z : 0 ≡ 0 * p.G + 0 = omega (arith, zero-mul p.G) in z) ∙ digits_mod 0 h

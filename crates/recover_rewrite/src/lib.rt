@@ -13,7 +13,7 @@ ghost use Rattle.law_views.specs.Views.{Whole, AllFit};
 ghost use Rattle.disk_zones.specs.Made.{Storing};
 ghost use Rattle.law_basic.specs.Segs.{ZonesLow};
 
-use disk_zones::Made;
+use disk_zones::TooFew;
 use recover_groups::Group;
 use spec::{Params, Seg, Serial};
 
@@ -22,7 +22,6 @@ use spec::{Params, Seg, Serial};
 pub struct Moved {
     pub next: usize,
     pub left: u64,
-    pub cut: bool,
 }
 
 // 01, Restart, 4: stripe k of the group, if it counts.
@@ -35,12 +34,12 @@ fn move_if(
     k: usize,
     to: Seg,
     m: Moved,
-) -> Moved
+) -> Result<Moved, TooFew>
     requires p_value { in_range p ≡ true }
     requires whole { Whole p (mk_disk image.old pointers.old) }
     requires moves_shown { MovesShown p w at.now k }
     requires by_index { (off : List ℕ) → GroupReads p off image.old pointers.old w at.now }
-    requires zones_low { ZonesLow p 0 to × (m.next ≤ w.base + k) × (m.cut ≡ false) × OtherZones p to w.seg }
+    requires zones_low { ZonesLow p 0 to × (m.next ≤ w.base + k) × OtherZones p to w.seg }
     requires by_index_2 { (off : List ℕ)
         → AllFit p (view_of p off image.old pointers.old)
         (moved_stripes p (segment_in p off image.old pointers.old w) to (itself p (segment_in p off image.old pointers.old w) (w.base + k)) m.next) }
@@ -50,14 +49,13 @@ fn move_if(
         (mk_disk image.old pointers.old) result (mk_disk image.new pointers.new) }
 {
     if !recover_groups::counts(p, w.gone, at, k) {
-        return m;
+        return Ok(m);
     }
-    let made = recover_move::move_stripe(p, image, pointers, w, at, k, to, m.next, m.left);
-    Moved {
+    let left = recover_move::move_stripe(p, image, pointers, w, at, k, to, m.next, m.left)?;
+    Ok(Moved {
         next: m.next + 1,
-        left: made.left,
-        cut: made.cut,
-    }
+        left,
+    })
 }
 
 // 01, Restart, 4: the counted stripes of one group; at is room for its index.
@@ -69,14 +67,14 @@ fn move_group(
     at: &mut [u16],
     to: Seg,
     m: Moved,
-) -> Moved
+) -> Result<Moved, TooFew>
     requires p_value { in_range p ≡ true }
     requires whole { Whole p (mk_disk image.old pointers.old) }
     requires at_len { (length at.old ≡ 2048) × ZonesLow p 0 w.seg × (w.base < p.S) × (w.base % p.G ≡ 0) × (w.gone ≡ 0) }
     requires by_index { (off : List ℕ)
         → (w.full ≡ sealed_in p (view_of p off image.old pointers.old) w.gone w.seg)
         × (recs_fault p w.gone (segment_in p off image.old pointers.old w) ≡ false) }
-    requires zones_low { ZonesLow p 0 to × (m.next ≤ w.base) × (m.cut ≡ false) × OtherZones p to w.seg }
+    requires zones_low { ZonesLow p 0 to × (m.next ≤ w.base) × OtherZones p to w.seg }
     requires by_index_2 { (off : List ℕ)
         → AllFit p (view_of p off image.old pointers.old)
         (moved_stripes p (segment_in p off image.old pointers.old w) to
@@ -89,15 +87,10 @@ fn move_group(
     recover_groups::index_group(p, image, pointers, w, at);
     let len = recover_groups::group_len(p, w.base);
     let mut next = m;
-    let mut k = 0;
-    while k < len {
-        next = move_if(p, image, pointers, w, at, k, to, next);
-        if next.cut {
-            return next;
-        }
-        k += 1;
+    for k in 0..len {
+        next = move_if(p, image, pointers, w, at, k, to, next)?;
     }
-    next
+    Ok(next)
 }
 
 // 01, Restart, 4: the counted stripes of unsealed segment seg in rising order, numbered from 0, into segment to, under a store count.
@@ -108,7 +101,7 @@ fn move_stripes(
     seg: Seg,
     to: Seg,
     count: u64,
-) -> Made
+) -> Result<u64, TooFew>
     requires p_value { in_range p ≡ true }
     requires whole { Whole p (mk_disk image.old pointers.old) }
     requires zones_low { ZonesLow p 0 seg × ZonesLow p 0 to × OtherZones p to seg }
@@ -128,29 +121,17 @@ fn move_stripes(
     let mut m = Moved {
         next: 0,
         left: count,
-        cut: false,
     };
-    let mut base = 0;
-    while base < p.S {
+    for base in (0..p.S).step_by(p.G) {
         let w = Group {
             gone: 0,
             seg,
             full: false,
             base,
         };
-        m = move_group(p, image, pointers, w, &mut at, to, m);
-        if m.cut {
-            return Made {
-                left: m.left,
-                cut: m.cut,
-            };
-        }
-        base += p.G;
+        m = move_group(p, image, pointers, w, &mut at, to, m)?;
     }
-    Made {
-        left: m.left,
-        cut: m.cut,
-    }
+    Ok(m.left)
 }
 
 // 01, Restart, 4: headers naming the old serial as copied, the counted stripes, then the old zones reset, under a store count.
@@ -163,7 +144,7 @@ pub fn rewrite(
     serial: Serial,
     copied: Serial,
     count: u64,
-) -> Made
+) -> Result<u64, TooFew>
     requires p_value { in_range p ≡ true }
     requires whole { Whole p (mk_disk image.old pointers.old) }
     requires zones_low { ZonesLow p 0 seg × ZonesLow p 0 to × OtherZones p to seg }
@@ -177,13 +158,7 @@ pub fn rewrite(
         → Storing p count (rewrite_stores p (segment_of p (view_of p off image.old pointers.old) 0 seg) to serial.0)
         (mk_disk image.old pointers.old) result (mk_disk image.new pointers.new) }
 {
-    let made = disk_zones::header_stores(p, image, pointers, to, serial, copied, count);
-    if made.cut {
-        return made;
-    }
-    let moved = move_stripes(p, image, pointers, seg, to, made.left);
-    if moved.cut {
-        return moved;
-    }
-    disk_zones::reset_stores(p, pointers, seg, moved.left)
+    let headed = disk_zones::header_stores(p, image, pointers, to, serial, copied, count)?;
+    let moved = move_stripes(p, image, pointers, seg, to, headed)?;
+    disk_zones::reset_stores(p, pointers, seg, moved)
 }

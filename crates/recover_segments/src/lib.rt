@@ -1,7 +1,7 @@
 // Questions about the segments that remain, by what was gathered of them (01, Restart, 2 and 4; 02, item 4).
 #![tactic(auto)]
 
-ghost use Rattle.std.specs.Prelude.{◌≡◌, true, false, cond, not, ◌&&◌, ◌||◌, List, ℕ, ◌+◌, ◌*◌, ◌≤◌, ◌<◌, max, eqb, length, get_or};
+ghost use Rattle.std.specs.Prelude.{◌≡◌, true, false, cond, not, ◌&&◌, ◌||◌, List, ℕ, ◌+◌, ◌*◌, ◌≤◌, ◌<◌, max, eqb, length, get_or, IfSome};
 ghost use Rattle.spec.specs.Bytes.{part};
 ghost use Rattle.spec.specs.Drives.{View, view_of, zone_on, sealed_in, seg};
 ghost use Rattle.spec.specs.Layout.{header_serial, header_copied};
@@ -12,6 +12,7 @@ ghost use Rattle.spec.specs.Segments.{header_at, segments, greatest_serial, unse
 ghost use Rattle.law_basic.specs.Segs.{ZonesLow};
 ghost use Rattle.law_drives.specs.Segs.{Here};
 ghost use Rattle.disk_gather.specs.Flags.{Serials, Keeps, FlagsRows};
+ghost use Rattle.disk_gather.specs.Ranges.{opt_first};
 ghost use Rattle.recover_segments.specs.Kept.{RowsLow, unsealed_at};
 ghost use Rattle.recover_segments.specs.Taken.{TakenOfTaken, free_in};
 
@@ -52,10 +53,7 @@ fn greater_if(flag: bool, a: Serial, b: Serial) -> Serial
     if !flag {
         return a;
     }
-    if a.0 < b.0 {
-        return b;
-    }
-    a
+    Serial(a.0.max(b.0))
 }
 
 // 01, Restart: the greatest remaining serial.
@@ -68,10 +66,8 @@ pub fn greatest_serial(p: Params, kept: &[bool], serials: &[u64]) -> Serial
         → result.0 ≡ greatest_serial (segments p v gone) }
 {
     let mut most = Serial(0);
-    let mut z = 0;
-    while z < p.Z {
+    for z in 0..p.Z {
         most = greater_if(kept[z], most, Serial(serials[z]));
-        z += 1;
     }
     most
 }
@@ -97,25 +93,24 @@ pub fn is_unsealed(
     !disk_zones::is_sealed(p, pointers, gone, disk_gather::row(rows, z))
 }
 
-// 01, Restart, 4: the lowest zone of the lowest present drive at which an unsealed segment remains; Z if there is none.
-pub fn first_unsealed(p: Params, pointers: &[u8], gone: u8, kept: &[bool], rows: &[u32]) -> usize
+// 01, Restart, 4: the lowest zone of the lowest present drive at which an unsealed segment remains.
+pub fn first_unsealed(
+    p: Params,
+    pointers: &[u8],
+    gone: u8,
+    kept: &[bool],
+    rows: &[u32],
+) -> Option<usize>
     requires p_value { in_range p ≡ true }
     requires pointers_len { (length pointers.now ≡ pointers_len p) × RowsLow p gone kept.now rows.now }
-    ensures upper_bound { result ≤ p.Z }
-    ensures by_index { (off : List ℕ) (im : List ℕ)
+    ensures low { IfSome result (λ z. z < p.Z) }
+    ensures first { (off : List ℕ) (im : List ℕ)
         → length im ≡ image_len p
         → Keeps p (view_of p off im pointers.now) gone kept.now
         → FlagsRows p (view_of p off im pointers.now) gone rows.now
-        → result ≡ first_or p.Z (keep (unsealed_at p (view_of p off im pointers.now) gone) (below p.Z)) }
+        → result ≡ opt_first (keep (unsealed_at p (view_of p off im pointers.now) gone) (below p.Z)) }
 {
-    let mut z = 0;
-    while z < p.Z {
-        if is_unsealed(p, pointers, gone, kept, rows, z) {
-            return z;
-        }
-        z += 1;
-    }
-    p.Z
+    (0..p.Z).find(|z| is_unsealed(p, pointers, gone, kept, rows, *z))
 }
 
 // 01, Refusals, 9: how many segments are unsealed.
@@ -130,12 +125,10 @@ pub fn unsealed_count(p: Params, pointers: &[u8], gone: u8, kept: &[bool], rows:
         → result ≡ length (unsealed (segments p (view_of p off im pointers.now) gone)) }
 {
     let mut n = 0;
-    let mut z = 0;
-    while z < p.Z {
+    for z in 0..p.Z {
         if is_unsealed(p, pointers, gone, kept, rows, z) {
             n += 1;
         }
-        z += 1;
     }
     n
 }
@@ -149,10 +142,8 @@ fn clear_marks(p: Params, marks: &mut [bool])
     ensures { (j : ℕ) → j < p.N * p.Z → get_or marks.new j false ≡ false }
 {
     let n = disk_shape::offline_len(p);
-    let mut i = 0;
-    while i < n {
+    for i in 0..n {
         marks[i] = false;
-        i += 1;
     }
 }
 
@@ -181,10 +172,8 @@ fn mark_segment(p: Params, marks: &mut [bool], segment: Seg)
         → z < p.Z
         → get_or marks.new (d * p.Z + z) false ≡ (get_or marks.old (d * p.Z + z) false || eqb (zone_on segment d) z) }
 {
-    let mut d = 0;
-    while d < p.N {
+    for d in 0..p.N {
         mark(p, marks, d, disk_shape::zone_on(p, segment, d));
-        d += 1;
     }
 }
 
@@ -214,10 +203,8 @@ pub fn taken(p: Params, kept: &[bool], rows: &[u32], marks: &mut [bool])
         → TakenOfTaken p v gone marks.new }
 {
     clear_marks(p, marks);
-    let mut z = 0;
-    while z < p.Z {
+    for z in 0..p.Z {
         mark_if(p, kept[z], marks, rows, z);
-        z += 1;
     }
 }
 
@@ -235,20 +222,13 @@ fn is_free(p: Params, offline: &[u8], marks: &[bool], drive: usize, zone: usize)
     !marks[disk_shape::offline_at(p, drive, zone)]
 }
 
-// 02, item 4: the lowest such zone of a drive; Z where there is none.
-fn lowest_free(p: Params, offline: &[u8], marks: &[bool], drive: usize) -> usize
+// 02, item 4: the lowest such zone of a drive.
+fn lowest_free(p: Params, offline: &[u8], marks: &[bool], drive: usize) -> Option<usize>
     requires p_value { in_range p ≡ true }
     requires offline_len { (length offline.now ≡ offline_len p) × (p.N * p.Z ≤ length marks.now) × (drive < p.N) }
-    ensures { (result ≡ first_or p.Z (keep (free_in p offline.now marks.now drive) (below p.Z))) × (result ≤ p.Z) }
+    ensures { result ≡ opt_first (keep (free_in p offline.now marks.now drive) (below p.Z)) }
 {
-    let mut z = 0;
-    while z < p.Z {
-        if is_free(p, offline, marks, drive, z) {
-            return z;
-        }
-        z += 1;
-    }
-    p.Z
+    (0..p.Z).find(|z| is_free(p, offline, marks, drive, *z))
 }
 
 // The same; 0 where there is none.
@@ -257,11 +237,7 @@ fn free_zone(p: Params, offline: &[u8], marks: &[bool], drive: usize) -> usize
     requires offline_len { (length offline.now ≡ offline_len p) × (p.N * p.Z ≤ length marks.now) × (drive < p.N) }
     ensures { (result ≡ first_or 0 (keep (free_in p offline.now marks.now drive) (below p.Z))) × (result < p.Z) }
 {
-    let z = lowest_free(p, offline, marks, drive);
-    if z < p.Z {
-        return z;
-    }
-    0
+    lowest_free(p, offline, marks, drive).unwrap_or(0)
 }
 
 // 02, item 4: the segment that the rewrite takes: each drive's lowest good zone that no remaining segment has.
@@ -274,10 +250,8 @@ pub fn free_segment(p: Params, offline: &[u8], marks: &[bool]) -> Seg
     ensures zones_low { ZonesLow p 0 result }
 {
     let mut zones = [0u32; 8];
-    let mut d = 0;
-    while d < p.N {
+    for d in 0..p.N {
         zones[d] = free_zone(p, offline, marks, d) as u32;
-        d += 1;
     }
     Seg { zones }
 }
@@ -290,12 +264,5 @@ pub fn none_free(p: Params, offline: &[u8], marks: &[bool]) -> bool
         → TakenOfTaken p (view_of p offline.now im ps) gone marks.now
         → result ≡ none_free_of p (view_of p offline.now im ps) (segments p (view_of p offline.now im ps) gone) }
 {
-    let mut d = 0;
-    while d < p.N {
-        if p.Z <= lowest_free(p, offline, marks, d) {
-            return true;
-        }
-        d += 1;
-    }
-    false
+    (0..p.N).any(|d| lowest_free(p, offline, marks, d).is_none())
 }

@@ -12,7 +12,7 @@ ghost use Rattle.disk_gather.specs.Flags.{Keeps, FlagsRows, Serials};
 ghost use Rattle.law_views.specs.Views.{Whole};
 ghost use Rattle.disk_zones.specs.Made.{Storing};
 
-use disk_zones::Made;
+use disk_zones::TooFew;
 use spec::{Params, Serial};
 
 // 01, Restart, 4: dropped segments are reset; then, of the unsealed segment, missing footers are stored if all its stripes count (whole), or its counted
@@ -30,7 +30,7 @@ pub fn healthy_stores(
     whole: bool,
     ragged: bool,
     count: u64,
-) -> Made
+) -> Result<u64, TooFew>
     requires p_value { in_range p ≡ true }
     requires whole { Whole p (mk_disk image.old pointers.old) × (length offline.now ≡ offline_len p) }
     requires keeps { Keeps p (view_of p offline.now image.old pointers.old) 0 kept.now × FlagsRows p (view_of p offline.now image.old pointers.old) 0 rows.now }
@@ -41,24 +41,21 @@ pub fn healthy_stores(
         (segments p (view_of p offline.now image.old pointers.old) 0))
         (mk_disk image.old pointers.old) result (mk_disk image.new pointers.new) }
 {
-    let z = recover_segments::first_unsealed(p, pointers, 0, kept, rows);
-    let made = recover_drop::drop_stores(p, image, pointers, offline, taken, count);
-    if made.cut {
-        return made;
-    }
-    if p.Z <= z {
-        return made;
-    }
+    let first = recover_segments::first_unsealed(p, pointers, 0, kept, rows);
+    let left = recover_drop::drop_stores(p, image, pointers, offline, taken, count)?;
+    let Some(z) = first else {
+        return Ok(left);
+    };
     let segment = disk_gather::row(rows, z);
     if whole {
-        return recover_footers::missing_footers(p, image, pointers, segment, made.left);
+        return recover_footers::missing_footers(p, image, pointers, segment, left);
     }
     if !ragged {
-        return made;
+        return Ok(left);
     }
     let to = recover_segments::free_segment(p, offline, taken);
     let most = recover_segments::greatest_serial(p, kept, serials);
     let serial = Serial(most.0 + 1);
     let copied = Serial(serials[z]);
-    recover_rewrite::rewrite(p, image, pointers, segment, to, serial, copied, made.left)
+    recover_rewrite::rewrite(p, image, pointers, segment, to, serial, copied, left)
 }

@@ -46,14 +46,7 @@ fn any_lost_data(p: Params, gone: u8, s: usize) -> bool
     if gone == 0 {
         return false;
     }
-    let mut d = 0;
-    while d < p.N {
-        if lost_data(p, gone, d, s) {
-            return true;
-        }
-        d += 1;
-    }
-    false
+    (0..p.N).any(|d| lost_data(p, gone, d, s))
 }
 
 // A drive is missing, or the stripe has an entry of it, which lies in the group.
@@ -81,12 +74,10 @@ fn is_all_entered(p: Params, w: Group, at: &[u16], k: usize) -> bool
     ensures all_entered { result ≡ true → AllEntered p w.gone w.base at.now k }
     ensures value { AllEntered p w.gone w.base at.now k → result ≡ true }
 {
-    let mut d = 0;
-    while d < p.N {
+    for d in 0..p.N {
         if !is_entered(p, w, at, d, k) {
             return false;
         }
-        d += 1;
     }
     true
 }
@@ -170,10 +161,8 @@ fn survey_stripes(p: Params, image: &[u8], w: Group, at: &[u16], t: Tally) -> Ta
 {
     let len = recover_groups::group_len(p, w.base);
     let mut next = t;
-    let mut k = 0;
-    while k < len {
+    for k in 0..len {
         next = survey_stripe(p, image, w, at, k, next);
-        k += 1;
     }
     next
 }
@@ -230,8 +219,7 @@ pub fn survey(
         top: 0,
         loose: 0,
     };
-    let mut base = 0;
-    while base < p.S {
+    for base in (0..p.S).step_by(p.G) {
         let w = Group {
             gone,
             seg,
@@ -239,7 +227,6 @@ pub fn survey(
             base,
         };
         t = survey_group(p, image, pointers, w, at, t);
-        base += p.G;
     }
     t
 }

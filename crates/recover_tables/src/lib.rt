@@ -48,10 +48,7 @@ pub struct Head {
 fn greater(a: Stamp, b: Stamp) -> Stamp
     ensures { result.0 ≡ max a.0 b.0 }
 {
-    if a.0 < b.0 {
-        return b;
-    }
-    a
+    Stamp(a.0.max(b.0))
 }
 
 // The record of stripe k of the group on a drive, as it competes.
@@ -118,8 +115,7 @@ fn load_stripe(
     let s = w.base + k;
     let n = disk_shape::data_count(p);
     let mut most = stamp;
-    let mut i = 0;
-    while i < n {
+    for i in 0..n {
         let drive = disk_shape::data_drive(p, s, i);
         let c = cand_of(p, image, w, at, serial, drive, k);
         let t = c.stamp;
@@ -127,7 +123,6 @@ fn load_stripe(
             p, image, pointers, offline, addresses, compact, w.gone, rows, serials, owners, c,
         );
         most = greater(most, t);
-        i += 1;
     }
     most
 }
@@ -191,11 +186,9 @@ fn index_drive(p: Params, pointers: &[u8], compact: &[u8], w: Group, drive: usiz
     ensures { (off : List ℕ) (im : List ℕ) → Rowed p off im pointers.now w.gone compact.now w.seg w.base drive at.old at.new }
 {
     let n = recover_groups::group_stored(p, pointers, w, drive);
-    let mut i = 0;
-    while i < n {
+    for i in 0..n {
         let j = 256 * drive + entry_at(p, compact, w, drive, i);
         at[j] = (i + 1) as u16;
-        i += 1;
     }
 }
 
@@ -220,10 +213,8 @@ fn index_group(p: Params, pointers: &[u8], compact: &[u8], w: Group, at: &mut [u
     requires zones_low { ZonesLow p w.gone w.seg × (w.base < p.S) × (w.base % p.G ≡ 0) }
     ensures { (off : List ℕ) (im : List ℕ) → Grouped p off im pointers.now compact.now w at.new }
 {
-    let mut d = 0;
-    while d < p.N {
+    for d in 0..p.N {
         index_any(p, pointers, compact, w, d, at);
-        d += 1;
     }
 }
 
@@ -260,13 +251,11 @@ fn load_group(
     index_group(p, pointers, compact, w, at);
     let len = recover_groups::group_len(p, w.base);
     let mut next = t;
-    let mut k = 0;
-    while k < len {
+    for k in 0..len {
         next = load_if(
             p, image, pointers, offline, addresses, compact, w, rows, serials, owners, serial, at,
             k, next,
         );
-        k += 1;
     }
     next
 }
@@ -298,8 +287,7 @@ fn load_groups(
 {
     let full = disk_zones::is_sealed(p, pointers, gone, seg);
     let mut t = Loaded { stamp, counted: 0 };
-    let mut base = 0;
-    while base < p.S {
+    for base in (0..p.S).step_by(p.G) {
         let w = Group {
             gone,
             seg,
@@ -310,7 +298,6 @@ fn load_groups(
             p, image, pointers, offline, addresses, compact, w, rows, serials, owners, serial, at,
             t,
         );
-        base += p.G;
     }
     t
 }
@@ -395,13 +382,11 @@ fn load_segments(
         stamp: Stamp(0),
         next: 0,
     };
-    let mut z = 0;
-    while z < p.Z {
+    for z in 0..p.Z {
         h = load_segment(
             p, image, pointers, offline, addresses, compact, gone, rows, serials, owners, kept[z],
             opened, z, at, h,
         );
-        z += 1;
     }
     h
 }
@@ -410,12 +395,7 @@ fn load_segments(
 fn clear_table(addresses: &mut [u8])
     ensures { addresses.new ≡ replicate (length addresses.old) 255 }
 {
-    let n = addresses.len();
-    let mut i = 0;
-    while i < n {
-        addresses[i] = 255;
-        i += 1;
-    }
+    addresses.fill(255);
 }
 
 // Both tables; opened is the row of the open segment; owners is room for whose each zone is, which is none before.
@@ -493,7 +473,8 @@ pub fn load(
         → mk_memory result addresses.new compact.new fl
         ≡ restart_memory p (view_of p offline.now image.now pointers.now) gone fl }
 {
-    let opened = recover_segments::first_unsealed(p, pointers, gone, kept, rows);
+    let first = recover_segments::first_unsealed(p, pointers, gone, kept, rows);
+    let opened = first.unwrap_or(p.Z);
     let serial = recover_segments::greatest_serial(p, kept, serials);
     let mut owners = [1024u16; OWNERS];
     let h = load_tables(

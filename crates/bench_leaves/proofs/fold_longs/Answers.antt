@@ -7,29 +7,17 @@ use Rattle.bench_leaves.specs.Bench.{longs_in, fold_none, fold_one}
 use Rattle.bench_leaves.proofs.fold_longs.Goals as goal
 
 pub loop-i-init : goal.loop-i-init
-loop-i-init c = (omega arith, fold_none c.args.src.now)
-
-pub overflow_mul-i : goal.overflow_mul-i
-overflow_mul-i c = omega arith
-
-pub read_be64-x-requires : goal.read_be64-x-requires
-read_be64-x-requires c = omega arith
-
-pub overflow_add-i : goal.overflow_add-i
-overflow_add-i c = omega arith
-
-pub loop-i-smaller : goal.loop-i-smaller
-loop-i-smaller c = omega arith
+loop-i-init c = fold_none c.args.src.now
 
 pub loop-i-preserved : goal.loop-i-preserved
 loop-i-preserved c =
     let l = c.loop-i in
     let args = c.args in
-    (omega arith, fold_one args.src.now l.i l.x c.read_be64-x.result l.invariant.1 c.read_be64-x.ensures)
+    fold_one args.src.now l.i l.x c.read_be64-x.result l.invariant c.read_be64-x.ensures
 
 pub returns : goal.returns
 returns c =
     let l = c.loop-i in
     let a = c.args in
     let e : l.i ≡ a.n = omega arith in
-    l.invariant.1 ∙ ap (λ (k : ℕ). xor_all (longs_in k a.src.now)) e
+    l.invariant ∙ ap (λ (k : ℕ). xor_all (longs_in k a.src.now)) e

@@ -1,5 +1,4 @@
 -- `run_width`: after i turns the bytes of the first i numbers stand in front; one turn appends the 8 bytes of first + i, by `write_be`. Assumes nothing.
-use mathlib.Core.Path.{refl, ◌∙◌}
 use native.Mathlib.Omega.{arith}
 use Rattle.spec.specs.Bytes.{to_be}
 use Rattle.spec.specs.Lists.{up_from}
@@ -10,22 +9,7 @@ use Rattle.bench_leaves.specs.Bench.{run_one}
 use Rattle.bench_leaves.proofs.run_width.Goals as goal
 
 pub loop-i-init : goal.loop-i-init
-loop-i-init c = (omega arith, refl, written_none (to_be 8) 8 (length-to_be 8) 0 c.args.dst.now (up_from c.args.first c.args.n))
-
-pub overflow_mul-i : goal.overflow_mul-i
-overflow_mul-i c = omega arith
-
-pub overflow_add-low : goal.overflow_add-low
-overflow_add-low c = omega arith
-
-pub write_be-requires : goal.write_be-requires
-write_be-requires c = omega arith
-
-pub overflow_add-i : goal.overflow_add-i
-overflow_add-i c = omega arith
-
-pub loop-i-smaller : goal.loop-i-smaller
-loop-i-smaller c = omega arith
+loop-i-init c = written_none (to_be 8) 8 (length-to_be 8) 0 c.args.dst.now (up_from c.args.first c.args.n)
 
 pub loop-i-preserved : goal.loop-i-preserved
 loop-i-preserved c =
@@ -33,13 +17,10 @@ loop-i-preserved c =
     let a = c.args in
     let q = c.write_be in
     let pre = c.requires in
-    (omega arith, q.auto.dst ∙ l.invariant.1, run_one a.dst.now l.dst q.new.dst l.i a.n a.first (omega arith) (pre) l.invariant.2 q.ensures)
-
-pub shape_of-dst : goal.shape_of-dst
-shape_of-dst c = c.loop-i.invariant.1
+    run_one a.dst.now l.dst q.new.dst l.i a.n a.first (omega arith) (pre) l.invariant q.ensures
 
 pub returns : goal.returns
 returns c =
     let l = c.loop-i in
     let a = c.args in
-    written_all (to_be 8) 8 (length-to_be 8) 0 l.i a.dst.now l.dst (up_from a.first a.n) (omega (arith, length_up_from a.first a.n)) l.invariant.2
+    written_all (to_be 8) 8 (length-to_be 8) 0 l.i a.dst.now l.dst (up_from a.first a.n) (omega (arith, length_up_from a.first a.n)) l.invariant

@@ -1,26 +1,14 @@
--- `read_le64`: the high half, from at + 4, times 2 ^ 32 plus the low half is the number of the eight bytes (`le_of_part-add`). Assumes nothing.
-use mathlib.Core.Path.{sym, ap₂, ◌∙◌}
-use Prim.Native.Nat.{ℕ, ◌+◌, ◌*◌}
-use native.Mathlib.Omega.{arith}
-use Rattle.law_basic.specs.Le.{le_of_part-add}
+-- `read_le64`: the number of the first four bytes, and four times one byte more above it. Assumes nothing.
+use Rattle.std.proofs.Common.{arith, ℕ, ◌+◌, ◌*◌, ◌^◌, ◌<◌, ◌≡◌, get_or, ap, ◌∙◌, sym}
+use Rattle.spec.specs.Bytes.{le_of, part}
+use Rattle.law_basic.specs.Le.{le_of_part-one, le_of_part_four, le_of_part-add}
 use Rattle.bits_le.proofs.read_le64.Goals as goal
-
-pub overflow_cast-low : goal.overflow_cast-low
-overflow_cast-low c = omega arith
-
-pub overflow_add-at : goal.overflow_add-at
-overflow_add-at c = omega arith
-
-pub overflow_cast-high : goal.overflow_cast-high
-overflow_cast-high c = omega arith
-
-pub overflow_mul-result : goal.overflow_mul-result
-overflow_mul-result c = omega arith
-
-pub overflow_add-result : goal.overflow_add-result
-overflow_add-result c = omega arith
 
 pub returns : goal.returns
 returns c =
-    ap₂ (λ (x y : ℕ). x * 4294967296 + y) c.read_le32-high.ensures c.read_le32-low.ensures
-    ∙ sym (le_of_part-add c.args.at 4 4 c.args.src.now (omega (arith, c.requires)))
+    let a = c.args.at in
+    let l = c.args.src.now in
+    let h = c.requires in
+    let more : (k : ℕ) → k < 8 → le_of (part a (k + 1) l) ≡ get_or l (a + k) 0 * 256 ^ k + le_of (part a k l) = λ k q.
+    le_of_part-add a k 1 l (omega (arith, h, q)) ∙ ap (λ (x : ℕ). x * 256 ^ k + le_of (part a k l)) (sym (le_of_part-one (a + k) l (omega (arith, h, q)))) in
+    omega (arith, c.from_le_bytes.ensures, le_of_part_four a l (omega arith), more 4 (omega arith), more 5 (omega arith), more 6 (omega arith), more 7 (omega arith))

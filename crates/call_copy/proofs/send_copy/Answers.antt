@@ -17,6 +17,9 @@ use Rattle.mem_rows.specs.declared.Front.{Front}
 use lib.Arith.{lt_of_le-ne}
 use mathlib.Core.Path.{sym, ap, ◌∙◌, subst}
 use native.Mathlib.Omega.{arith}
+use Rattle.std.specs.Prelude.{Result, Ok, Err}
+use Rattle.call_filling.specs.declared.Opened.{Opened}
+use Rattle.disk_zones.specs.declared.TooFew.{TooFew}
 use Rattle.call_copy.proofs.send_copy.Goals as goal
 use Rattle.call_copy.proofs.send_copy.Lts
 use Rattle.call_copy.proofs.send_copy.Reads
@@ -43,8 +46,8 @@ disk c = mk_disk c.args.image.now c.args.pointers.now
 abbrev memory : (c : Start) → Memory
 memory c = mk_memory (state c) c.args.addresses.now c.args.compact.now c.args.inflight.now
 
-pub open-o-requires : goal.open-o-requires
-open-o-requires c =
+pub open-requires : goal.open-requires
+open-requires c =
     let start' = c.before.before.before.before.before.before.before.before.before.before.before in
     let a = c.args in
     let r = c.requires.copy_ready in
@@ -59,30 +62,31 @@ open-o-requires c =
 
 -- the drives with the segment open
 abbrev after : (c : After-open) → Disk
-after c = mk_disk c.open-o.new.image c.open-o.new.pointers
+after c = mk_disk c.«open».new.image c.«open».new.pointers
 
 abbrev start : (c : After-open) → Start
 start c =
     c.before.before.before.before.before.before.before.before.before.before.before
 
 -- and the opening is one of the state
-opened : (c : After-open) → OpeningStores (start c).args.p (start c).args.offline.now (state (start c)) (start c).args.count (disk (start c)) c.open-o.result (after c)
-opened c =
+opened : (c : After-open) (r : Result Opened TooFew)
+    → OpeningStores (start c).args.p (start c).args.offline.now (behind (start c).args.f) (start c).args.count (disk (start c)) r (after c)
+    → OpeningStores (start c).args.p (start c).args.offline.now (state (start c)) (start c).args.count (disk (start c)) r (after c)
+opened c r h =
     let s = start c in
     let a = s.args in
-    let o = c.open-o in
-    opening_front a.p a.offline.now (state s) a.count (disk s) o.result (after c)
-    (subst (λ (x : Front). OpeningStores a.p a.offline.now (behind x) a.count (disk s) o.result (after c)) s.requires.f_value.0 o.ensures)
+    opening_front a.p a.offline.now (state s) a.count (disk s) r (after c)
+    (subst (λ (x : Front). OpeningStores a.p a.offline.now (behind x) a.count (disk s) r (after c)) s.requires.f_value.0 h)
 
-pub returns-then-o : goal.returns-then-o
-returns-then-o c =
+pub returns-in_default : goal.returns-in_default
+returns-in_default c =
     let at_open = c.before.before.before.before.before.before.before.before.before.before.before.before.before in
     let start' = at_open.before.before.before.before.before.before.before.before.before.before.before in
     let u = c.cut in
-    let if1 = c.if-o in
     let a = c.args in
-    copy_cut a.p a.offline.now (disk start') (memory start') a.address.0 a.stamp.0 a.block.now a.count c.requires.copy_ready c.open-o.result (after at_open)
-    (opened at_open) if1.true u.result u.new.addresses u.new.compact (ap (λ (x : Change). x.answer) u.ensures.value) u.ensures.addresses_after.0 u.ensures.addresses_after.1
+    copy_cut a.p a.offline.now (disk start') (memory start') a.address.0 a.stamp.0 a.block.now a.count c.requires.copy_ready (after at_open)
+    (opened at_open (Err (record {})) c.in_default.ensures) u.result u.new.addresses u.new.compact (ap (λ (x : Change). x.answer) u.ensures.value)
+    u.ensures.addresses_after.0 u.ensures.addresses_after.1
 
 pub row_at-row-requires : goal.row_at-row-requires
 row_at-row-requires c =
@@ -96,8 +100,8 @@ send-w-requires c =
     let a = c.args in
     let r = c.requires.copy_ready in
     let row = c.row_at-row in
-    let q = sent_asks a.p a.offline.now (disk start') (memory start') a.address.0 a.stamp.0 a.block.now a.count r c.open-o.result (after at_open)
-    (opened at_open) a.f c.requires.f_value.0 a.a c.requires.f_value.1 row.result row.ensures in
+    let q = sent_asks a.p a.offline.now (disk start') (memory start') a.address.0 a.stamp.0 a.block.now a.count r (after at_open) c.in-Ok.o
+    (opened at_open (Ok c.in-Ok.o) c.in-Ok.ensures) a.f c.requires.f_value.0 a.a c.requires.f_value.1 row.result row.ensures in
     record { p_value = r.in_range_holds; slot_bound = (q.0, q.1, q.2, r.inflight_long, c.requires.f_value.3) }
 
 pub returns : goal.returns
@@ -106,8 +110,7 @@ returns c =
     let start' = at_open.before.before.before.before.before.before.before.before.before.before.before in
     let q = c.send-w in
     let row = c.row_at-row in
-    let if1 = c.if-o in
     let a = c.args in
-    sent_done a.p a.offline.now (disk start') (memory start') a.address.0 a.stamp.0 a.block.now a.count c.requires.copy_ready c.open-o.result (after at_open)
-    (opened at_open) a.f c.requires.f_value.0 a.a c.requires.f_value.1 row.result row.ensures (sized start') if1.false _ q.new.inflight
-    (λ j. copied_as a.f a.a c.open-o.result a.stamp.0 (q.ensures j)) (λ j. (q.ensures j).inflight)
+    sent_done a.p a.offline.now (disk start') (memory start') a.address.0 a.stamp.0 a.block.now a.count c.requires.copy_ready (after at_open) c.in-Ok.o
+    (opened at_open (Ok c.in-Ok.o) c.in-Ok.ensures) a.f c.requires.f_value.0 a.a c.requires.f_value.1 row.result row.ensures (sized start') _ q.new.inflight
+    (λ j. copied_as a.f a.a c.in-Ok.o a.stamp.0 (q.ensures j)) (λ j. (q.ensures j).inflight)

@@ -14,5 +14,5 @@ returns c =
     let a = c.args in
     let if1 = c.if-i-lt8 in
     let filling_slot_lem = c.filling_slot-i in
-    aim_begins a.p (behind a.f) filling_slot_lem.result filling_slot_lem.ensures (omega (arith, if1.false)) c.must_open-opens.result
-    c.free_slot-slot.result c.must_open-opens.ensures c.free_slot-slot.ensures
+    aim_begins a.p (behind a.f) filling_slot_lem.result filling_slot_lem.ensures (omega (arith, if1.false)) c.must_open.result
+    c.free_slot.result c.must_open.ensures c.free_slot.ensures

@@ -12,11 +12,9 @@ use Rattle.call_filling.proofs.any_elsewhere.Goals as goal
 pub loop-i-init : goal.loop-i-init
 unfolding in_flight slots slot_count
 loop-i-init c =
-    let a = c.args in (
-      omega arith,
-      any-start (λ k. not (is_free (behind a.f) k) && other_group a.p (behind a.f) k) 8
-          ∙ sym (any-keep (λ k. not (is_free (behind a.f) k)) (other_group a.p (behind a.f)) (below 8)),
-    )
+    let a = c.args in
+    any-start (λ k. not (is_free (behind a.f) k) && other_group a.p (behind a.f) k) 8
+    ∙ sym (any-keep (λ k. not (is_free (behind a.f) k)) (other_group a.p (behind a.f)) (below 8))
 
 pub is_elsewhere-requires : goal.is_elsewhere-requires
 is_elsewhere-requires c = record { p_value = c.requires; i_bound = omega arith }
@@ -25,26 +23,18 @@ pub returns-then-is_elsewhere : goal.returns-then-is_elsewhere
 returns-then-is_elsewhere c =
     let a = c.args in
     let l = c.loop-i in
-    sym (any_found (λ k. not (is_free (behind a.f) k) && other_group a.p (behind a.f) k) l.i 8 (omega arith) (sym c.is_elsewhere.ensures ∙ c.if-is_elsewhere.true)) ∙ l.invariant.1
-
-pub overflow_add-i : goal.overflow_add-i
-overflow_add-i c = omega arith
-
-pub loop-i-smaller : goal.loop-i-smaller
-loop-i-smaller c = omega arith
+    sym (any_found (λ k. not (is_free (behind a.f) k) && other_group a.p (behind a.f) k) l.i 8 (omega arith) (sym c.is_elsewhere.ensures ∙ c.if-is_elsewhere.true)) ∙ l.invariant
 
 pub loop-i-preserved : goal.loop-i-preserved
 loop-i-preserved c =
     let a = c.args in
-    let l = c.loop-i in (
-      omega arith,
-      sym (any_passed (λ k. not (is_free (behind a.f) k) && other_group a.p (behind a.f) k) l.i 8 (omega arith)
-          (sym c.is_elsewhere.ensures ∙ c.if-is_elsewhere.false))
-          ∙ l.invariant.1,
-    )
+    let l = c.loop-i in
+    sym (any_passed (λ k. not (is_free (behind a.f) k) && other_group a.p (behind a.f) k) l.i 8 (omega arith)
+    (sym c.is_elsewhere.ensures ∙ c.if-is_elsewhere.false))
+    ∙ l.invariant
 
 pub returns : goal.returns
 returns c =
     let a = c.args in
     let l = c.loop-i in
-    sym (any-ended (λ k. not (is_free (behind a.f) k) && other_group a.p (behind a.f) k) l.i 8 (omega arith)) ∙ l.invariant.1
+    sym (any-ended (λ k. not (is_free (behind a.f) k) && other_group a.p (behind a.f) k) l.i 8 (omega arith)) ∙ l.invariant

@@ -22,13 +22,12 @@ returns-then-not-has_room c =
     let a = c.args in
     let h = c.has_room in
     let slot_parity = c.slot_parity in
-    let whole = c.whole-s in
     let if1 = c.if-not-has_room in
     let added = c.added-next in
     let f : h.result ≡ not (leb (data_count a.p) (suc a.row.filled)) = h.ensures ∙ ap (λ (x : Row). not (leb (data_count a.p) x.filled)) added.ensures in
     let e : leb (data_count a.p) (suc a.row.filled) ≡ true = not-false (leb (data_count a.p) (suc a.row.filled)) (sym f ∙ not-true h.result if1.true-raw) in record {
       value = added.ensures;
-      inflight_after = slot_parity.ensures ∙ ap (set_slot_parity a.p a.inflight.now a.i) whole.ensures
+      inflight_after = slot_parity.ensures
           ∙ ap (λ (x : Bool). cond x (set_slot_parity a.p a.inflight.now a.i a.row.number) a.inflight.now) (sym e);
     }
 

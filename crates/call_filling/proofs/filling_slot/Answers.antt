@@ -8,32 +8,23 @@ use Rattle.call_filling.proofs.filling_slot.Goals as goal
 
 pub loop-i-init : goal.loop-i-init
 unfolding filling_slot slots slot_count
-loop-i-init c = let a = c.args in (omega arith, found-start (is_filling a.p (behind a.f)) 8)
-
-pub is_filling-requires : goal.is_filling-requires
-is_filling-requires c = omega arith
+loop-i-init c = let a = c.args in found-start (is_filling a.p (behind a.f)) 8
 
 pub returns-then-is_filling : goal.returns-then-is_filling
 returns-then-is_filling c =
     let a = c.args in
     let l = c.loop-i in
-    sym (found_hit (is_filling a.p (behind a.f)) l.i 8 (omega arith) (sym c.is_filling.ensures ∙ c.if-is_filling.true)) ∙ l.invariant.1
-
-pub overflow_add-i : goal.overflow_add-i
-overflow_add-i c = omega arith
-
-pub loop-i-smaller : goal.loop-i-smaller
-loop-i-smaller c = omega arith
+    sym (found_hit (is_filling a.p (behind a.f)) l.i 8 (omega arith) (sym c.is_filling.ensures ∙ c.if-is_filling.true)) ∙ l.invariant
 
 pub loop-i-preserved : goal.loop-i-preserved
 loop-i-preserved c =
     let a = c.args in
     let l = c.loop-i in
-    (omega arith, sym (found_miss (is_filling a.p (behind a.f)) l.i 8 (omega arith) (sym c.is_filling.ensures ∙ c.if-is_filling.false)) ∙ l.invariant.1)
+    sym (found_miss (is_filling a.p (behind a.f)) l.i 8 (omega arith) (sym c.is_filling.ensures ∙ c.if-is_filling.false)) ∙ l.invariant
 
 pub returns : goal.returns
 returns c =
     let a = c.args in
     let l = c.loop-i in
     let e : l.i ≡ 8 = omega arith in
-    sym e ∙ sym (found_end (is_filling a.p (behind a.f)) l.i 8 (omega arith)) ∙ l.invariant.1
+    sym e ∙ sym (found_end (is_filling a.p (behind a.f)) l.i 8 (omega arith)) ∙ l.invariant

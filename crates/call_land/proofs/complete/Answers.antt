@@ -4,21 +4,20 @@ use Rattle.spec.specs.Drives.{Disk, mk_disk}
 use Rattle.spec.specs.declared.Answer.TheVariants.{Landed}
 use Rattle.call_land.specs.Plan.{completing_cut, completing_done}
 use lib.ListN.{replicate}
-use mathlib.Core.Path.{refl, ap, ◌∙◌}
+use mathlib.Core.Path.{refl, sym, ap, ◌∙◌}
 use Rattle.call_land.proofs.complete.Goals as goal
 
 pub point-requires : goal.point-requires
 point-requires c =
-    let q = c.requires in record { p_value = q.p_value; whole = q.whole; addresses_len = q.addresses_len; zones_low = (q.zones_low.0, q.row_bound.0, q.row_bound.1) }
+    let q = c.requires in record { addresses_len = q.addresses_len; zones_low = (q.zones_low.0, q.row_bound.0, q.row_bound.1) }
 
 pub seal-made-requires : goal.seal-made-requires
 seal-made-requires c =
     let q = c.requires in record { p_value = q.p_value; whole = q.whole.0; zones_low = q.zones_low }
 
-pub returns-then-made : goal.returns-then-made
-returns-then-made c =
+pub returns-then-is_err : goal.returns-then-is_err
+returns-then-is_err c =
     let cut = c.cut in
-    let if1 = c.if-made in
     let seal = c.seal-made in
     let point = c.point in
     let a =
@@ -28,7 +27,7 @@ returns-then-made c =
     let u = cut.ensures in
     completing_cut a.p a.offline.now a.count a.row a.segment a.seals k a.addresses.now a.compact.now seal.result k' (seal.ensures a.offline.now)
     cut.result cut.new.addresses cut.new.compact
-    if1.true u.0 (u.1 ∙ ap (λ (x : ℕ). replicate x 0) point.auto.addresses) u.2
+    (sym c.is_err.ensures.value ∙ c.if-is_err.true) u.0 (u.1 ∙ ap (λ (x : ℕ). replicate x 0) point.auto.addresses) u.2
 
 pub returns : goal.returns
 returns c =
@@ -39,4 +38,4 @@ returns c =
     let k' : Disk = mk_disk seal.new.image seal.new.pointers in
     completing_done a.p a.offline.now a.count a.row a.segment a.seals k a.addresses.now a.compact.now seal.result k' (seal.ensures a.offline.now)
     (Landed c.writes_in-n.result) point.new.addresses a.compact.now
-    c.if-made.false (ap Landed c.writes_in-n.ensures) point.ensures refl
+    (sym c.is_err.ensures.value ∙ c.if-is_err.false) (ap Landed c.writes_in-n.ensures) point.ensures refl

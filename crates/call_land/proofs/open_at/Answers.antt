@@ -1,5 +1,5 @@
 -- `open_at`: all zones of the open segment where the stripe completes (`open_whole`), else its zone on the drive, Z where none has the serial. Assumes nothing.
-use Rattle.spec.specs.Drives.{View, view_of}
+use Rattle.disk_drives.specs.Viewed.{viewed}
 use Rattle.disk_holders.specs.Opened.{OpenedOn}
 use Rattle.law_drives.specs.Tests.{clash}
 use borrow.Author.Tests.{ne_eqb}
@@ -8,7 +8,7 @@ use mathlib.Core.Path.{refl, ◌∙◌}
 use Rattle.call_land.proofs.open_at.Goals as goal
 
 pub open_whole-requires : goal.open_whole-requires
-open_whole-requires c = let q = c.requires in record { p_value = q.p_value; whole = (q.whole.0, q.whole.1, q.whole.2) }
+open_whole-requires c = c.requires
 
 pub returns-then-done : goal.returns-then-done
 returns-then-done c =
@@ -20,17 +20,16 @@ returns-then-done c =
     }
 
 pub open_zone-zone-requires : goal.open_zone-zone-requires
-open_zone-zone-requires c = let q = c.requires in record { p_value = q.p_value; whole = (q.whole.0, q.whole.1, q.whole.2) }
+open_zone-zone-requires c = c.requires
 
 pub returns : goal.returns
 returns c =
     let a = c.args in
-    let v : View = view_of a.p a.offline.now a.image.now a.pointers.now in
     let y = c.open_zone-zone.ensures in
-    let z : OpenedOn a.p v a.drive a.opened c.open_zone-zone.result = (y.st_value, y.value, y.upper_bound) in record {
+    let z : OpenedOn a.drives.now.p (viewed a.drives.now) a.drive a.opened c.open_zone-zone.result = (y.st_value, y.value, y.upper_bound) in record {
       st_value = z.0;
       target_at = λ st e x. record {
-        some = z.0 st e ∙ ne_eqb c.open_zone-zone.result a.p.Z x;
+        some = z.0 st e ∙ ne_eqb c.open_zone-zone.result a.drives.now.p.Z x;
         zone = z.1 st e (lt_of_le-ne z.2 x);
         whole = λ b. clash b c.if-done.false;
       };

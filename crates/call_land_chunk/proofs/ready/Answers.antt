@@ -8,7 +8,7 @@ use Rattle.spec.specs.Params.{data_count}
 use Rattle.call_land_chunk.specs.Alone.{alone}
 use lib.Dec.{leb, ltb}
 use mathlib.Core.Bool.{Bool, true, false, cond, not, ◌&&◌}
-use mathlib.Core.Path.{◌≡◌, sym, ap, ap₂, ◌∙◌}
+use mathlib.Core.Path.{◌≡◌, sym, ap, ◌∙◌}
 use Rattle.call_land_chunk.proofs.ready.Goals as goal
 
 pub returns-then-has_drive : goal.returns-then-has_drive
@@ -24,16 +24,13 @@ unfolding ready alone landed_in stripe_in filled_in_of is_full
 returns-then-is_data c =
     let a = c.args in
     let is_data_holds = c.is_data in
-    let wide = c.wide-f in
-    let whole = c.whole-s in
     let if1 = c.if-has_drive in
     let has-drive = c.has_drive in
     let r = a.row in
     let s = r.number in
     let e : false ≡ is_in r.landed a.d = sym if1.false ∙ has-drive.ensures in
-    let q : whole.result ≡ s = whole.ensures in
-    let f : true ≡ is_data a.p s a.d = sym c.if-is_data.true ∙ is_data_holds.ensures ∙ ap (λ (x : ℕ). is_data a.p x a.d) q in
-    ap₂ ltb (c.data_position.ensures.0 ∙ ap (λ (x : ℕ). data_position a.p x a.d) q) wide.ensures
+    let f : true ≡ is_data a.p s a.d = sym c.if-is_data.true ∙ is_data_holds.ensures in
+    ap (λ (x : ℕ). ltb x r.filled) c.data_position.ensures.0
     ∙ (λ j. not (e j) && cond (f j) (ltb (data_position a.p s a.d) r.filled) (leb (data_count a.p) r.filled))
 
 pub returns : goal.returns
@@ -41,14 +38,11 @@ unfolding ready alone landed_in stripe_in filled_in_of is_full
 returns c =
     let a = c.args in
     let is_data_holds = c.is_data in
-    let wide = c.wide-f in
-    let whole = c.whole-s in
     let if1 = c.if-has_drive in
     let has-drive = c.has_drive in
     let r = a.row in
     let s = r.number in
     let e : false ≡ is_in r.landed a.d = sym if1.false ∙ has-drive.ensures in
-    let q : whole.result ≡ s = whole.ensures in
-    let f : false ≡ is_data a.p s a.d = sym c.if-is_data.false ∙ is_data_holds.ensures ∙ ap (λ (x : ℕ). is_data a.p x a.d) q in
-    ap₂ leb c.data_count.ensures.0 wide.ensures
+    let f : false ≡ is_data a.p s a.d = sym c.if-is_data.false ∙ is_data_holds.ensures in
+    ap (λ (x : ℕ). leb x r.filled) c.data_count.ensures.0
     ∙ (λ j. not (e j) && cond (f j) (ltb (data_position a.p s a.d) r.filled) (leb (data_count a.p) r.filled))

@@ -20,15 +20,6 @@ loop-k-init c =
     let e = c.filled_in-f.ensures in
     (e, omega arith, omega arith, ap (λ (x : ℕ). 0 + length (keep (is_write (alone r) 0) (up_from 0 (x - 0)))) e ∙ kept-start (is_write (alone r) 0) (filled_in_of (alone r) 0))
 
-pub overflow_add-n : goal.overflow_add-n
-overflow_add-n c = omega arith
-
-pub overflow_add-k : goal.overflow_add-k
-overflow_add-k c = omega arith
-
-pub loop-k-smaller : goal.loop-k-smaller
-loop-k-smaller c = omega arith
-
 pub loop-k-preserved : goal.loop-k-preserved
 unfolding is_write alone
 loop-k-preserved c =

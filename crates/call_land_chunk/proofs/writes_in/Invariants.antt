@@ -11,6 +11,3 @@ use Rattle.call_land_chunk.proofs.writes_in.Given as goal
 abbrev pub invariant-loop-k : goal.invariant-loop-k
 invariant-loop-k l = (l.f ≡ filled_in_of (alone l.row) 0) × (l.k ≤ l.f) × (l.n ≤ l.k)
     × (l.n + length (keep (is_write (alone l.row) 0) (up_from l.k (l.f - l.k))) ≡ writes_in (alone l.row) 0)
-
-abbrev pub decreases-loop-k : goal.decreases-loop-k
-decreases-loop-k l = l.f - l.k

@@ -1,5 +1,5 @@
 -- `overfull`: the lowest of worst and the zones from drive e on is the answer; a turn takes drive e's zone if it is lower (`faults_lower`). Assumes nothing.
-use Prim.Native.Nat.{◌-◌, ◌≤◌}
+use Prim.Native.Nat.{◌≤◌}
 use Rattle.spec.specs.Drives.{zone_on}
 use Rattle.spec.specs.Lists.{least, flat, cons_if, below}
 use Rattle.call_land_faults.specs.Lowest.{over_by, faults_from}
@@ -9,9 +9,6 @@ use Rattle.call_land_faults.proofs.overfull.Given as goal
 
 abbrev pub invariant-loop-e : goal.invariant-loop-e
 invariant-loop-e l =
-    (l.e ≤ l.p.N) × (l.worst ≤ l.p.Z)
-    × (least l.worst (faults_from l.p.Z (λ x. cons_if (over_by l.p l.pointers l.d l.segment x) (zone_on l.segment x) []) l.e l.p.N)
+    (l.worst ≤ l.p.Z)
+    × (least l.worst (faults_from (λ x. cons_if (over_by l.p l.pointers l.d l.segment x) (zone_on l.segment x) []) l.e l.p.N)
     ≡ least l.zone (flat (λ x. cons_if (over_by l.p l.pointers l.d l.segment x) (zone_on l.segment x) []) (below l.p.N)))
-
-abbrev pub decreases-loop-e : goal.decreases-loop-e
-decreases-loop-e l = l.p.N - l.e

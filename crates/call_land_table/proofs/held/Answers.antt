@@ -1,6 +1,7 @@
 -- `held`: the place is within the table; never written gives none, any other is data as required and gives `held_cand`. Assumes nothing.
+use Rattle.disk_drives.specs.Viewed.{viewed}
 use Prim.Native.Nat.{ℕ}
-use Rattle.spec.specs.Drives.{View, view_of}
+use Rattle.spec.specs.Drives.{View}
 use Rattle.spec.specs.Lists.Opt.{some}
 use Rattle.spec.specs.Params.{addresses_len}
 use Rattle.spec.specs.Segments.{is_place}
@@ -21,22 +22,22 @@ pub returns-then-place : goal.returns-then-place
 returns-then-place c =
     let a = c.args in
     let place_at = c.place_at-place in
-    let v : View = view_of a.p a.offline.now a.image.now a.pointers.now in
-    sym (held_none a.p a.addresses.now a.address.0 place_at.result.0 (sym place_at.ensures) v c.if-place.true)
+    let v : View = viewed a.drives.now in
+    sym (held_none a.drives.now.p a.addresses.now a.address.0 place_at.result.0 (sym place_at.ensures) v c.if-place.true)
 
 pub held_cand-requires : goal.held_cand-requires
 held_cand-requires c =
     let a = c.args in
     let q = c.requires in
     let place_at = c.place_at-place in
-    let v : View = view_of a.p a.offline.now a.image.now a.pointers.now in
+    let v : View = viewed a.drives.now in
     let h = q.addresses_len.2 (λ e. c.if-place.false (place_at.ensures ∙ e)) in
-    record { p_value = q.p_value; whole = q.whole; data_place = subst (λ (x : ℕ). DataPlace a.p x × (is_place a.p v 0 x ≡ true)) (sym place_at.ensures) h }
+    record { data_place = subst (λ (x : ℕ). DataPlace a.drives.now.p x × (is_place a.drives.now.p v 0 x ≡ true)) (sym place_at.ensures) h }
 
 pub returns : goal.returns
 returns c =
     let a = c.args in
     let place_at = c.place_at-place in
-    let v : View = view_of a.p a.offline.now a.image.now a.pointers.now in
+    let v : View = viewed a.drives.now in
     ap some c.held_cand.ensures
-    ∙ sym (held_some a.p a.addresses.now a.address.0 place_at.result.0 (sym place_at.ensures) v c.if-place.false)
+    ∙ sym (held_some a.drives.now.p a.addresses.now a.address.0 place_at.result.0 (sym place_at.ensures) v c.if-place.false)

@@ -47,12 +47,6 @@ set_place-requires c =
     let pre = c.requires in
     omega (arith, c.if-a-p.true, loop.invariant.2, pre.addresses_len.0)
 
-pub overflow_add-k : goal.overflow_add-k
-overflow_add-k c = omega arith
-
-pub loop-k-smaller : goal.loop-k-smaller
-loop-k-smaller c = omega arith
-
 pub loop-k-preserved : goal.loop-k-preserved
 loop-k-preserved c =
     let a = c.args in

@@ -12,6 +12,3 @@ abbrev pub invariant-loop-k : goal.invariant-loop-k
 invariant-loop-k l =
     (l.n ≡ filled_in_of (alone l.row) 0) × (l.k ≤ l.n) × (length l.addresses ≡ length l.initial.addresses)
     × (put_winners l.p (alone l.row) 0 l.places (up_from l.k (l.n - l.k)) l.addresses ≡ put_winners l.p (alone l.row) 0 l.places (below (filled_in_of (alone l.row) 0)) l.initial.addresses)
-
-abbrev pub decreases-loop-k : goal.decreases-loop-k
-decreases-loop-k l = l.n - l.k

@@ -1,4 +1,5 @@
 -- `winners`: the first k places are the winners of addresses below L; a turn sets the next one (`set_winner`) or leaves one not below L. Assumes nothing.
+use Rattle.disk_drives.specs.Viewed.{viewed}
 use Rattle.call_land_chunk.specs.Alone.{alone}
 use Prim.Native.Nat.{ℕ, ◌+◌, ◌<◌}
 use Rattle.spec.specs.Drives.{View, view_of}
@@ -12,7 +13,7 @@ use mathlib.Core.List.{List}
 use mathlib.Core.Path.{◌≡◌, refl, sym, ap, ◌∙◌, subst}
 use native.Mathlib.Omega.{arith}
 use Rattle.call_land_table.proofs.winners.Goals as goal
-use Rattle.call_land_table.proofs.winners.Goals.{else-address-p, then-address-p}
+use Rattle.call_land_table.proofs.winners.Goals.{else-address-drives, then-address-drives}
 use Rattle.call_land_table.proofs.winners.Goals.{In-loop-k}
 
 pub loop-k-init : goal.loop-k-init
@@ -24,8 +25,8 @@ low c =
     let filled_in = c.filled_in-n in
     let args = c.args in
     let pre = c.requires in
-    let p = args.p in
-    omega (arith, c.loop-k-test.true, filled_in.ensures, pre.zones_low.1, data_count_high p (ranged p pre.p_value))
+    let p = args.drives.now.p in
+    omega (arith, c.loop-k-test.true, filled_in.ensures, pre.zones_low.1, data_count_high p (ranged p c.args.drives.now.sound))
 
 pub entry-e-requires : goal.entry-e-requires
 entry-e-requires c = low (goal.at.entry-e-requires c).In-loop-k
@@ -40,13 +41,15 @@ winner-q-requires c =
     let filled_in = c.filled_in-n in
     let k = loop.k in
     let e : entry.result.address.0 ≡ (entry_in_of (alone a.row) 0 k).address = ap (λ (r : Rec). r.address) entry.ensures in
-    let s = q.addresses_len.1 k (omega (arith, loop-test.true, filled_in.ensures)) (omega (arith, c.if-address-p.true, e)) in
-    let v : View = view_of a.p a.offline.now a.image.now a.pointers.now in
+    let s = q.addresses_len.1 k (omega (arith, loop-test.true, filled_in.ensures)) (omega (arith, c.if-address-drives.true, e)) in
+    let v : View = viewed a.drives.now in
     record {
-      p_value = q.p_value;
-      whole = q.whole;
-      addresses_len =
-          (q.addresses_len.0, omega (arith, c.if-address-p.true), subst (λ (x : ℕ). Sane a.p v (place_at_of a.addresses.now x)) (sym e) s);
+      addresses_len = (
+        q.addresses_len.0,
+        omega (arith, c.if-address-drives.true),
+        subst (λ (x : ℕ). Sane a.drives.now.p v (place_at_of a.addresses.now x))
+            (sym e) s,
+      );
       zones_low = q.zones_low;
       serial_value = q.serial_value;
     }
@@ -59,35 +62,29 @@ pub bounds-out-k : goal.bounds-out-k
 bounds-out-k c =
     omega (arith, low (goal.at.bounds-out-k c).In-loop-k)
 
-pub overflow_add-k : goal.overflow_add-k
-overflow_add-k c = omega arith
-
-pub loop-k-smaller : goal.loop-k-smaller
-loop-k-smaller c = omega arith
-
 pub loop-k-preserved : goal.loop-k-preserved
 loop-k-preserved c =
     let a = c.args in
     let entry = c.entry-e in
     let loop-test = c.loop-k-test in
     let l = c.loop-k in
-    let p = a.p in
+    let p = a.drives.now.p in
     let st = alone a.row in
     let i : ℕ = 0 in
     let k = l.k in
-    let v : View = view_of p a.offline.now a.image.now a.pointers.now in
+    let v : View = view_of p a.drives.now.offline.now a.drives.now.image.now a.drives.now.pointers.now in
     let f : ℕ → ℕ = winner_of p v a.addresses.now (landed_cands p v a.segment st i) in
     let m : k < 8 = low (goal.at.loop-k-preserved c).In-loop-k in
     let e : entry.result.address.0 ≡ (entry_in_of st i k).address = ap (λ (r : Rec). r.address) entry.ensures in
-    let g : length c.if-address-p.out ≡ 8 = elim c.if-address-p.branch
-    [ then-address-p w ↦ ap length w.out-is ∙ length-set l.out k w.winner-q.result.0 ∙ l.invariant.2 | else-address-p w ↦ ap length w.out-is ∙ l.invariant.2 ] in
+    let g : length c.if-address-drives.out ≡ 8 = elim c.if-address-drives.branch
+    [ then-address-drives w ↦ ap length w.out-is ∙ length-set l.out k w.winner-q.result.0 ∙ l.invariant.2 | else-address-drives w ↦ ap length w.out-is ∙ l.invariant.2 ] in
     let T : List ℕ → Type 0 = λ x. (h : ℕ) → h < k + 1 → (entry_in_of st i h).address < p.L → get_or x h 0 ≡ f (entry_in_of st i h).address in
-    let b : T c.if-address-p.out =
-    elim c.if-address-p.branch [
-      | then-address-p w ↦ subst T (sym w.out-is)
+    let b : T c.if-address-drives.out =
+    elim c.if-address-drives.branch [
+      | then-address-drives w ↦ subst T (sym w.out-is)
           (set_winner p st i f l.out k l.invariant.3 w.winner-q.result.0 (omega (arith, m, l.invariant.2)) (w.winner-q.ensures ∙ ap f e))
-      | else-address-p w ↦ subst T
-          (sym w.out-is) (keep_winner p st i f l.out k l.invariant.3 (omega (arith, w.if-address-p.false, e)))
+      | else-address-drives w ↦ subst T
+          (sym w.out-is) (keep_winner p st i f l.out k l.invariant.3 (omega (arith, w.if-address-drives.false, e)))
     ] in
     (l.invariant.0, omega (arith, loop-test.true), g, b)
 

@@ -1,7 +1,7 @@
 -- `winners`: the first k places are the winners of addresses below L; a turn sets the next one (`set_winner`) or leaves one not below L. Assumes nothing.
+use Rattle.disk_drives.specs.Viewed.{viewed}
 use Rattle.call_land_chunk.specs.Alone.{alone}
-use Prim.Native.Nat.{ℕ, ◌-◌, ◌≤◌, ◌<◌}
-use Rattle.spec.specs.Drives.{view_of}
+use Prim.Native.Nat.{ℕ, ◌≤◌, ◌<◌}
 use Rattle.spec.specs.Landing.{landed_cands}
 use Rattle.spec.specs.Memory.{filled_in_of, entry_in_of}
 use Rattle.call_land_table.specs.Winners.{winner_of}
@@ -12,9 +12,6 @@ use Rattle.call_land_table.proofs.winners.Given as goal
 abbrev pub invariant-loop-k : goal.invariant-loop-k
 invariant-loop-k l =
     (l.n ≡ filled_in_of (alone l.row) 0) × (l.k ≤ l.n) × (length l.out ≡ 8)
-    × ((h : ℕ) → h < l.k → (entry_in_of (alone l.row) 0 h).address < l.p.L
-    → get_or l.out h 0 ≡ winner_of l.p (view_of l.p l.offline l.image l.pointers) l.addresses
-    (landed_cands l.p (view_of l.p l.offline l.image l.pointers) l.segment (alone l.row) 0) (entry_in_of (alone l.row) 0 h).address)
-
-abbrev pub decreases-loop-k : goal.decreases-loop-k
-decreases-loop-k l = l.n - l.k
+    × ((h : ℕ) → h < l.k → (entry_in_of (alone l.row) 0 h).address < l.drives.p.L
+    → get_or l.out h 0 ≡ winner_of l.drives.p (viewed l.drives) l.addresses
+    (landed_cands l.drives.p (viewed l.drives) l.segment (alone l.row) 0) (entry_in_of (alone l.row) 0 h).address)

@@ -35,12 +35,6 @@ pub bounds-bytes-d : goal.bounds-bytes-d
 bounds-bytes-d c =
     omega (arith, c.loop-d-test.true, (ranged c.args.p c.requires.p_value).drives_high, c.loop-d.invariant.1, c.requires.zones_low.2)
 
-pub overflow_add-d : goal.overflow_add-d
-overflow_add-d c = omega (arith, c.loop-d-test.true)
-
-pub loop-d-smaller : goal.loop-d-smaller
-loop-d-smaller c = omega (arith, c.loop-d-test.true)
-
 pub loop-d-preserved : goal.loop-d-preserved
 loop-d-preserved c =
     let a = c.args in

@@ -2,7 +2,7 @@
 use mathlib.Core.Path.{◌≡◌}
 use mathlib.Core.Bool.{false}
 use mathlib.Core.List.{List}
-use Prim.Native.Nat.{ℕ, ◌-◌, ◌≤◌, ◌<◌}
+use Prim.Native.Nat.{ℕ, ◌≤◌, ◌<◌}
 use lib.ListN.{length, get_or}
 use Rattle.spec.specs.Lists.{is_in}
 use Rattle.spec.specs.Params.{image_len}
@@ -14,6 +14,3 @@ invariant-loop-d l =
     (l.d ≤ l.p.N)
     × (length l.bytes ≡ length l.initial.bytes)
     × ((e : ℕ) → e < l.d → (im : List ℕ) → length im ≡ image_len l.p → is_in l.gone e ≡ false → BlockAt l.p im l.segment e (get_or l.at e 0) (get_or l.bytes e 0))
-
-abbrev pub decreases-loop-d : goal.decreases-loop-d
-decreases-loop-d l = l.p.N - l.d

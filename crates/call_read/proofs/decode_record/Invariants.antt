@@ -2,7 +2,7 @@
 use mathlib.Core.Path.{◌≡◌}
 use mathlib.Core.List.{List}
 use mathlib.Core.Bool.{false}
-use Prim.Native.Nat.{ℕ, ◌-◌, ◌≤◌, ◌<◌}
+use Prim.Native.Nat.{ℕ, ◌≤◌, ◌<◌}
 use lib.ListN.{length, get_or}
 use Rattle.spec.specs.Drives.{view_of, record_at}
 use Rattle.spec.specs.Lists.{is_in}
@@ -17,6 +17,3 @@ invariant-loop-d l =
     → get_or l.addresses e 0 ≡ (record_at l.p (view_of l.p off l.image l.pointers) l.gone e l.segment (get_or l.at e 0)).address)
     × ((e : ℕ) → e < l.d → is_in l.gone e ≡ false → (off : List ℕ)
     → get_or l.stamps e 0 ≡ (record_at l.p (view_of l.p off l.image l.pointers) l.gone e l.segment (get_or l.at e 0)).stamp)
-
-abbrev pub decreases-loop-d : goal.decreases-loop-d
-decreases-loop-d l = l.p.N - l.d

@@ -10,9 +10,11 @@ use Rattle.call_read.specs.Ends.{fill_answer, Fills, SoughtBy, fill_left}
 use Rattle.call_read.specs.Order.{found_at}
 use Rattle.call_read.specs.Placed.{placed_at, found-placed}
 use Rattle.call_read.specs.Ready.{ReadReady, read_ready}
-use Rattle.call_read.specs.Sought.{refused_by}
+use Rattle.mem_calls.specs.Left.{checked}
+use Rattle.mem_calls.specs.declared.Refusal.{Refusal}
 use Rattle.call_read.specs.declared.Sought.{Sought}
-use Rattle.law_views.specs.Views.{seen}
+use Rattle.spec.specs.declared.Answer.{Answer}
+use Rattle.std.specs.Prelude.{Result, Ok}
 use Prim.Native.Nat.{ℕ}
 use mathlib.Core.Bool.{false}
 use Rattle.spec.specs.Lists.{is_in}
@@ -20,110 +22,77 @@ use lib.ListN.{length}
 use mathlib.Core.List.{List}
 use mathlib.Core.Path.{◌≡◌, refl, sym, ap, ◌∙◌, subst}
 use Rattle.call_read.proofs.fill.Goals as goal
-use Rattle.call_read.proofs.fill.Lts
-use Rattle.call_read.proofs.fill.Reads
-use Rattle.call_read.proofs.fill.Tie
+use Rattle.call_read.proofs.fill.Goals.{After-seek-sought}
 
-abbrev Start : Type 0
-Start = Lts.Start Tie.the-claims Reads.Pre Reads.Post Tie.handed_clauses
+-- what was sought, by the arm's variant
+sought_is : {r : Result Sought Refusal} {y z : Sought} → r ≡ Ok y → y ≡ z → r ≡ Ok z
+sought_is e f = e ∙ ap (λ (x : Sought). Ok x) f
 
-abbrev After-seek : Type 0
-After-seek = Lts.After-seek Tie.the-claims Reads.Pre Reads.Post Tie.handed_clauses
+module _ (c : After-seek-sought) where
+  abbrev disk : Disk
+  disk = mk_disk c.args.image.now c.args.pointers.now
 
-abbrev disk : Start → Disk
-disk s = mk_disk s.args.image.now s.args.pointers.now
+  abbrev memory : Memory
+  memory = mk_memory (state_of c.args.state.now) c.args.addresses.now c.args.compact.now c.args.inflight.now
 
-abbrev memory : Start → Memory
-memory s = mk_memory (state_of s.args.state.now) s.args.addresses.now s.args.compact.now s.args.inflight.now
+  -- the bytes that `seek` leaves
+  abbrev starts : List ℕ
+  starts = c.seek-sought.new.bytes
 
-abbrev start : After-seek → Start
-start c = c.before.before.before.before.before.before.before.before.before.before
+  -- what was sought, by its variant
+  told : (x : Result Sought Refusal) → c.seek-sought.result ≡ x → SoughtBy c.args.p c.args.offline.now disk memory c.args.address.0 (length c.args.block.now) x starts
+  told x e =
+      subst (λ (y : Result Sought Refusal). SoughtBy c.args.p c.args.offline.now disk memory c.args.address.0 (length c.args.block.now) y starts) e
+      (c.seek-sought.ensures.result_value, c.seek-sought.ensures.gives)
 
--- the bytes that `seek` leaves
-abbrev starts : After-seek → List ℕ
-starts c = c.seek-sought.new.bytes
+  -- no check refuses it
+  ready : (x : Result Sought Refusal) → c.seek-sought.result ≡ x → checked x ≡ none → ReadReady c.args.p c.args.offline.now disk memory c.args.address.0 (length c.args.block.now)
+  ready x e n = read_ready _ _ _ _ _ _ (sym (told x e).0 ∙ n)
 
--- what was sought, by its variant
-told : (c : After-seek) (x : Sought) → c.seek-sought.result ≡ x
-    → SoughtBy (start c).args.p (start c).args.offline.now (disk (start c)) (memory (start c)) (start c).args.address.0 (length (start c).args.block.now) x (starts c)
-told c x e =
-    let s = start c in
-    subst (λ (y : Sought). SoughtBy s.args.p s.args.offline.now (disk s) (memory s) s.args.address.0 (length s.args.block.now) y (starts c)) e
-    (c.seek-sought.ensures.result_value, c.seek-sought.ensures.gives)
+  -- where it lies is a data place
+  placed : (x : Result Sought Refusal) → c.seek-sought.result ≡ x → checked x ≡ none
+      → placed_at c.args.p (found_at c.args.p c.args.offline.now disk memory c.args.address.0 (length c.args.block.now))
+  placed x e n = found-placed _ _ _ _ (ready x e n).faultless
 
--- no check refuses it
-ready : (c : After-seek) (x : Sought) → c.seek-sought.result ≡ x → refused_by x ≡ none
-    → ReadReady (start c).args.p (start c).args.offline.now (disk (start c)) (memory (start c)) (start c).args.address.0 (length (start c).args.block.now)
-ready c x e n =
-    let s = start c in
-    read_ready s.args.p s.args.offline.now (disk s) (memory s) s.args.address.0 (length s.args.block.now) (sym (told c x e).0 ∙ n)
-
--- what the call leaves, by the variant and the block
-left : (c : After-seek) (x : Sought) (b : List ℕ) → c.seek-sought.result ≡ x
-    → Fills (start c).args.p (start c).args.offline.now (disk (start c)) (memory (start c)) (start c).args.address.0 (start c).args.block.now x (starts c) b
-    → mk_after (fill_answer x) (disk (start c)) (memory (start c)) b
-    ≡ call_disk (start c).args.p (start c).args.offline.now (disk (start c)) (memory (start c)) (fill (start c).args.address.0 (start c).args.block.now)
-left c x b e f =
-    let s = start c in
-    fill_left s.args.p s.args.offline.now (disk s) (memory s) s.args.address.0 s.args.block.now x (starts c) b (told c x e) f
+  -- what the call leaves, by the variant and the block
+  left : (x : Result Sought Refusal) (b : List ℕ) → c.seek-sought.result ≡ x → Fills c.args.p c.args.offline.now disk memory c.args.address.0 c.args.block.now x starts b
+      → mk_after (fill_answer x) disk memory b ≡ call_disk c.args.p c.args.offline.now disk memory (fill c.args.address.0 c.args.block.now)
+  left x b e f = fill_left _ _ _ _ _ _ x starts b (told x e) f
 
 pub fill_here-requires : goal.fill_here-requires
 fill_here-requires c =
-    let at_seek = c.before.before.before.before in
-    let start' = at_seek.before.before.before.before.before.before.before.before.before.before in
-    let p = c.args.p in
-    let n = length c.args.block.now in
-    let t = told at_seek _ c.in-Here.is in
-    let r = ready at_seek _ c.in-Here.is refl in
-    let f = found_at p c.args.offline.now (disk start') (memory start') c.args.address.0 n in
-    record {
-      p_value = r.ranged;
-      image_len = (
-        r.whole.image_long,
-        r.block_long,
-        subst (placed_at p) t.1.0
-            (found-placed p (seen p c.args.offline.now (disk start')) (memory start').state.missing f r.faultless),
-      );
-    }
+    let g = (goal.at.fill_here-requires c).After-seek-sought in
+    let e = sought_is c.in-Ok-Here.is (rw c.in-Ok-Here.is at c.in-Ok-Here.field-0-is) in
+    let r = ready g _ e refl in
+    record { p_value = r.ranged; image_len = (r.whole.image_long, r.block_long, subst (placed_at c.args.p) (told g _ e).1.0 (placed g _ e refl)) }
 
 pub fill_lost-requires : goal.fill_lost-requires
 fill_lost-requires c =
-    let at_seek = c.before.before.before.before.before.before in
-    let start' = at_seek.before.before.before.before.before.before.before.before.before.before in
-    let p = c.args.p in
-    let off = c.args.offline.now in
-    let t = told at_seek _ c.in-Away.is in
-    let r = ready at_seek _ c.in-Away.is refl in
-    let f = found_at p off (disk start') (memory start') c.args.address.0 (length c.args.block.now) in
-    let placed = subst (placed_at p) t.1.0 (found-placed p (seen p off (disk start')) (memory start').state.missing f r.faultless) in
+    let g = (goal.at.fill_lost-requires c).After-seek-sought in
+    let e = sought_is c.in-Ok-Away.is (rw c.in-Ok-Away.is at c.in-Ok-Away.field-0-is) in
+    let t = told g _ e in
+    let r = ready g _ e refl in
     let lost = t.1.2 in record {
       p_value = r.ranged;
-      image_len = (r.whole.image_long, r.block_long, placed);
-      bytes_len =
-          (lost.long, λ k h n. lost.within k h (subst (λ (x : ℕ). is_in x k ≡ false) c.missing-gone.ensures n));
+      image_len = (r.whole.image_long, r.block_long, subst (placed_at c.args.p) t.1.0 (placed g _ e refl));
+      bytes_len = (lost.long, λ k h n. lost.within k h (subst (λ (x : ℕ). is_in x k ≡ false) c.missing-gone.ensures n));
     }
 
-pub returns-in-Bad : goal.returns-in-Bad
-returns-in-Bad c =
-    let at_seek = c.before.before.before in
-    left at_seek _ (start at_seek).args.block.now c.in-Bad.is refl
+pub returns-in-Err : goal.returns-in-Err
+returns-in-Err c =
+    let g = (goal.at.returns-in-Err c).After-seek-sought in
+    ap (λ (x : Answer). mk_after x (disk g) (memory g) c.args.block.now) c.from.ensures ∙ left g _ c.args.block.now c.in-Err.is refl
 
-pub returns-in-Never : goal.returns-in-Never
-returns-in-Never c =
-    let at_seek = c.before.before.before.before.before.before.before in
-    let clear = c.clear in
-    left at_seek _ clear.new.dst c.in-Never.is clear.ensures
+pub returns-in-Ok-Never : goal.returns-in-Ok-Never
+returns-in-Ok-Never c =
+    left (goal.at.returns-in-Ok-Never c).After-seek-sought _ c.clear.new.dst (sought_is c.in-Ok-Never.is (rw c.in-Ok-Never.is at c.in-Ok-Never.field-0-is)) c.clear.ensures
 
-pub returns-in-Here : goal.returns-in-Here
-returns-in-Here c =
-    let at_seek = c.before.before.before.before.before.before.before in
-    let here = c.fill_here in
-    left at_seek _ here.new.block c.in-Here.is here.ensures
+pub returns-in-Ok-Here : goal.returns-in-Ok-Here
+returns-in-Ok-Here c =
+    left (goal.at.returns-in-Ok-Here c).After-seek-sought _ c.fill_here.new.block (sought_is c.in-Ok-Here.is (rw c.in-Ok-Here.is at c.in-Ok-Here.field-0-is)) c.fill_here.ensures
 
-pub returns-in-Away : goal.returns-in-Away
-returns-in-Away c =
-    let at_seek = c.before.before.before.before.before.before.before.before.before in
-    let s = start at_seek in
-    let lost = c.fill_lost in
-    left at_seek _ lost.new.block c.in-Away.is
-    (lost.ensures ∙ ap (λ (x : ℕ). lost_block s.args.p s.args.image.now x c.in-Away.q.0 (starts at_seek)) c.missing-gone.ensures)
+pub returns-in-Ok-Away : goal.returns-in-Ok-Away
+returns-in-Ok-Away c =
+    let g = (goal.at.returns-in-Ok-Away c).After-seek-sought in
+    left g _ c.fill_lost.new.block (sought_is c.in-Ok-Away.is (rw c.in-Ok-Away.is at c.in-Ok-Away.field-0-is))
+    (c.fill_lost.ensures ∙ ap (λ (x : ℕ). lost_block c.args.p c.args.image.now x c.in-Ok-Away.q.0 (starts g)) c.missing-gone.ensures)

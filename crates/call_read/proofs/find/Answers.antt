@@ -4,70 +4,55 @@ use Rattle.spec.specs.Calls.{mk_after}
 use Rattle.spec.specs.Drives.{Disk, mk_disk}
 use Rattle.spec.specs.Engine.{call_disk}
 use Rattle.spec.specs.Engine.Call.{read}
-use Rattle.spec.specs.Lists.Opt.{none}
 use Rattle.spec.specs.Memory.{Memory, mk_memory, state_of}
 use Rattle.call_read.specs.Ends.{find_answer, find_left}
-use Rattle.call_read.specs.Order.{read_refusal}
 use Rattle.call_read.specs.Ready.{read_ready}
-use Rattle.call_read.specs.Sought.{refused_by}
+use Rattle.mem_calls.specs.Left.{checked}
+use Rattle.mem_calls.specs.declared.Refusal.{Refusal}
 use Rattle.call_read.specs.declared.Sought.{Sought}
+use Rattle.spec.specs.declared.Answer.{Answer}
+use Rattle.std.specs.Prelude.{Result, Ok}
 use Prim.Native.Nat.{ℕ}
 use mathlib.Core.List.{[]}
 use mathlib.Core.Path.{◌≡◌, sym, ap, ◌∙◌}
 use Rattle.call_read.proofs.find.Goals as goal
-use Rattle.call_read.proofs.find.Lts
-use Rattle.call_read.proofs.find.Reads
-use Rattle.call_read.proofs.find.Tie
+use Rattle.call_read.proofs.find.Goals.{After-seek-sought}
 
-abbrev Start : Type 0
-Start = Lts.Start Tie.the-claims Reads.Pre Reads.Post Tie.handed_clauses
+-- what was sought, by the arm's variant
+sought_is : {r : Result Sought Refusal} {y z : Sought} → r ≡ Ok y → y ≡ z → r ≡ Ok z
+sought_is e f = e ∙ ap (λ (x : Sought). Ok x) f
 
-abbrev After-seek : Type 0
-After-seek = Lts.After-seek Tie.the-claims Reads.Pre Reads.Post Tie.handed_clauses
+module _ (c : After-seek-sought) where
+  abbrev disk : Disk
+  disk = mk_disk c.args.image.now c.args.pointers.now
 
-abbrev disk : Start → Disk
-disk s = mk_disk s.args.image.now s.args.pointers.now
+  abbrev memory : Memory
+  memory = mk_memory (state_of c.args.state.now) c.args.addresses.now c.args.compact.now c.args.inflight.now
 
-abbrev memory : Start → Memory
-memory s = mk_memory (state_of s.args.state.now) s.args.addresses.now s.args.compact.now s.args.inflight.now
-
-abbrev start : After-seek → Start
-start c = c.before.before.before.before.before.before.before.before.before
-
--- the answer of what was sought
-left : (c : After-seek) (x : Sought) → c.seek-sought.result ≡ x
-    → mk_after (find_answer (start c).args.p x) (disk (start c)) (memory (start c)) []
-    ≡ call_disk (start c).args.p (start c).args.offline.now (disk (start c)) (memory (start c)) (read (start c).args.address.0)
-left c x e =
-    let s = start c in
-    ap (λ (y : Sought). mk_after (find_answer s.args.p y) (disk s) (memory s) []) (sym e)
-    ∙ find_left s.args.p s.args.offline.now (disk s) (memory s) s.args.address.0 c.seek-sought.result c.seek-sought.new.bytes (c.seek-sought.ensures.result_value, c.seek-sought.ensures.gives)
+  -- the answer of what was sought
+  left : (x : Result Sought Refusal) → c.seek-sought.result ≡ x
+      → mk_after (find_answer c.args.p x) disk memory [] ≡ call_disk c.args.p c.args.offline.now disk memory (read c.args.address.0)
+  left x e =
+      ap (λ (y : Result Sought Refusal). mk_after (find_answer c.args.p y) disk memory []) (sym e)
+      ∙ find_left _ _ _ _ _ c.seek-sought.result c.seek-sought.new.bytes (c.seek-sought.ensures.result_value, c.seek-sought.ensures.gives)
 
 pub place_byte-requires : goal.place_byte-requires
 place_byte-requires c =
-    let start' = c.before.before.before.before.before.before.before.before.before.before.before.before in
-    let p = c.args.p in
-    let none! : read_refusal p c.args.offline.now (disk start') (memory start') c.args.address.0 p.B ≡ none =
-    sym c.seek-sought.ensures.result_value ∙ ap refused_by c.in-Here.is in
-    (read_ready p c.args.offline.now (disk start') (memory start') c.args.address.0 p.B none!).ranged
+    (read_ready _ _ _ _ _ _ (sym c.seek-sought.ensures.result_value ∙ ap checked (sought_is c.in-Ok-Here.is (rw c.in-Ok-Here.is at c.in-Ok-Here.field-0-is)))).ranged
 
-pub returns-in-Bad : goal.returns-in-Bad
-returns-in-Bad c =
-    let at_seek = c.before.before.before in
-    left at_seek _ c.in-Bad.is
+pub returns-in-Err : goal.returns-in-Err
+returns-in-Err c =
+    let q = (goal.at.returns-in-Err c).After-seek-sought in
+    ap (λ (x : Answer). mk_after x (disk q) (memory q) []) c.from.ensures ∙ left q _ c.in-Err.is
 
-pub returns-in-Never : goal.returns-in-Never
-returns-in-Never c =
-    let at_seek = c.before.before.before in
-    left at_seek _ c.in-Never.is
+pub returns-in-Ok-Never : goal.returns-in-Ok-Never
+returns-in-Ok-Never c = left (goal.at.returns-in-Ok-Never c).After-seek-sought _ (sought_is c.in-Ok-Never.is (rw c.in-Ok-Never.is at c.in-Ok-Never.field-0-is))
 
-pub returns-in-Here : goal.returns-in-Here
-returns-in-Here c =
-    let at_seek = c.before.before.before.before in
-    let start' = at_seek.before.before.before.before.before.before.before.before.before in
-    ap (λ (n : ℕ). mk_after (Part n c.in-Here.t) (disk start') (memory start') []) c.place_byte.ensures.0 ∙ left at_seek _ c.in-Here.is
+pub returns-in-Ok-Here : goal.returns-in-Ok-Here
+returns-in-Ok-Here c =
+    let q = (goal.at.returns-in-Ok-Here c).After-seek-sought in
+    ap (λ (n : ℕ). mk_after (Part n c.in-Ok-Here.t) (disk q) (memory q) []) c.place_byte.ensures.0
+    ∙ left q _ (sought_is c.in-Ok-Here.is (rw c.in-Ok-Here.is at c.in-Ok-Here.field-0-is))
 
-pub returns-in-Away : goal.returns-in-Away
-returns-in-Away c =
-    let at_seek = c.before.before.before in
-    left at_seek _ c.in-Away.is
+pub returns-in-Ok-Away : goal.returns-in-Ok-Away
+returns-in-Ok-Away c = left (goal.at.returns-in-Ok-Away c).After-seek-sought _ (sought_is c.in-Ok-Away.is (rw c.in-Ok-Away.is at c.in-Ok-Away.field-0-is))

@@ -1,5 +1,6 @@
 -- `seek`: a failed test closes its end (`read_range_fails` and so on), those passed drop off; `seek_found` settles what is left. Assumes nothing.
 use Prim.Native.Nat.{ℕ}
+use Rattle.mem_calls.specs.Left.{passed_on, lent_short, lent_whole}
 use Rattle.spec.specs.Drives.{Disk, mk_disk, view_of}
 use Rattle.spec.specs.Engine.{lent_ok_of}
 use Rattle.spec.specs.Lists.{Opt}
@@ -8,233 +9,129 @@ use Rattle.spec.specs.Params.{in_range}
 use Rattle.spec.specs.Read.{lies}
 use Rattle.spec.specs.declared.Answer.{Answer}
 use Rattle.mem_lookup.specs.Lies.{found_of}
-use Rattle.call_read.specs.Order.{found_at, read_from, read_range_fails, read_range_passes, read_lengths_fail, read_block_fails, read_lengths_pass, read_list_fails, read_list_passes}
+use Rattle.call_read.specs.Order.{found_at, read_from, read_range_fails, read_range_passes, read_lengths_fail, read_block_fails, read_lent, read_list_fails, read_listed}
 use Rattle.call_read.specs.Order.{read_address_fails, read_address_passes, read_state_fails, read_state_passes}
 use Rattle.call_read.specs.Placed.{Sorted, lies_sorted}
-use Rattle.call_read.specs.Sought.{SeeksAll}
+use Rattle.call_read.specs.Sought.{SeeksAll, gives_none}
 use Rattle.call_write.specs.Ready.{lent_long_lem}
 use Rattle.law_basic.specs.Geometry.{ranged}
 use Rattle.law_drives.specs.Segs.{Here}
 use Rattle.law_drives.specs.States.{state_of_lem}
-use borrow.Author.Tests.{not-true, not-false}
 use mathlib.Core.Bool.{true}
 use mathlib.Core.Path.{◌≡◌, sym, ap, ◌∙◌, subst, transport}
 use native.Mathlib.Omega.{arith}
 use Rattle.law_drives.specs.Masks.{few_here}
 use Rattle.call_read.proofs.seek.Goals as goal
-use Rattle.call_read.proofs.seek.Lts
-use Rattle.call_read.proofs.seek.Reads
-use Rattle.call_read.proofs.seek.Tie
+use Rattle.call_read.proofs.seek.Goals.{In_ok-lent_ok, In_ok-list_rule, Else-not-state_ok}
 
-abbrev Start : Type 0
-Start = Lts.Start Tie.the-claims Reads.Pre Reads.Post Tie.handed_clauses
+module _ (c : In_ok-lent_ok) where
+  abbrev disk_in : Disk
+  disk_in = mk_disk c.args.image.now c.args.pointers.now
 
-abbrev Else1 : Type 0
-Else1 = Lts.Else1 Tie.the-claims Reads.Pre Reads.Post Tie.handed_clauses
+  abbrev memory_in : Memory
+  memory_in = mk_memory (state_of c.args.state.now) c.args.addresses.now c.args.compact.now c.args.inflight.now
 
-abbrev Else2 : Type 0
-Else2 = Lts.Else2 Tie.the-claims Reads.Pre Reads.Post Tie.handed_clauses
+  -- the first check passes, and the lent buffers have their lengths
+  in_range_holds : in_range c.args.p ≡ true
+  in_range_holds = sym c.in_range.ensures ∙ c.if-not-in_range.false
 
-abbrev Else3 : Type 0
-Else3 = Lts.Else3 Tie.the-claims Reads.Pre Reads.Post Tie.handed_clauses
+  lent : lent_ok_of c.args.p c.args.offline.now disk_in memory_in ≡ true
+  lent = lent_whole _ (c.in_ok-lent_ok.ensures memory_in.state)
 
-abbrev Else4 : Type 0
-Else4 = Lts.Else4 Tie.the-claims Reads.Pre Reads.Post Tie.handed_clauses
+module _ (c : In_ok-list_rule) where
+  abbrev from : ℕ → Opt Answer
+  from i = read_from c.args.p c.args.offline.now (mk_disk c.args.image.now c.args.pointers.now)
+      (mk_memory (state_of c.args.state.now) c.args.addresses.now c.args.compact.now c.args.inflight.now) c.args.address.0 c.args.len i
 
-abbrev Else5 : Type 0
-Else5 = Lts.Else5 Tie.the-claims Reads.Pre Reads.Post Tie.handed_clauses
-
-abbrev Else6 : Type 0
-Else6 = Lts.Else6 Tie.the-claims Reads.Pre Reads.Post Tie.handed_clauses
-
-abbrev disk_in : Start → Disk
-disk_in s = mk_disk s.args.image.now s.args.pointers.now
-
-abbrev memory_in : Start → Memory
-memory_in s = mk_memory (state_of s.args.state.now) s.args.addresses.now s.args.compact.now s.args.inflight.now
-
--- the first refusal among the checks from the i-th on
-abbrev from : Start → ℕ → Opt Answer
-from s i = read_from s.args.p s.args.offline.now (disk_in s) (memory_in s) s.args.address.0 s.args.len i
+  enough : from 4 ≡ from 0
+  enough =
+      read_listed _ _ _ _ _ _ (sym c.in_range.ensures ∙ c.if-not-in_range.false) (lent_whole _ (c.in_ok-lent_ok.ensures (state_of c.args.state.now))) c.if-len-p.false
+      c.in_ok-list_rule.ensures
 
 pub returns-then-not-in_range : goal.returns-then-not-in_range
-returns-then-not-in_range c =
-    let start = c.before.before.before.before.before.before.before.before.before.before.before in
-    let range = c.in_range in record {
-      result_value = read_range_fails c.args.p c.args.offline.now (disk_in start) (memory_in start) c.args.address.0 c.args.len
-          (sym range.ensures ∙ not-true range.result c.if-not-in_range.true-raw);
-      gives = tt;
+returns-then-not-in_range c = record { result_value = read_range_fails _ _ _ _ _ _ (sym c.in_range.ensures ∙ c.if-not-in_range.true); gives = tt }
+
+pub returns-in_err-lent_ok : goal.returns-in_err-lent_ok
+returns-in_err-lent_ok c =
+    let h = lent_short _ _ (c.in_err-lent_ok.ensures _) in record {
+      result_value = passed_on _ c.in_err-lent_ok.field-0.0 c.from_residual.ensures.1 ∙ h.1 ∙ read_lengths_fail _ _ _ _ _ _ h.0
+          ∙ read_range_passes _ _ _ _ _ _ (sym c.in_range.ensures ∙ c.if-not-in_range.false);
+      gives = gives_none _ _ _ _ _ _ _ _ c.in_err-lent_ok.field-0.0 c.from_residual.ensures.1;
     }
-
-module _ (c : Else1) where
-  abbrev started : Start
-  started = c.before.before.before.before.before.before.before.before.before.before
-
-  -- the first check passes
-  in_range_holds : in_range started.args.p ≡ true
-  in_range_holds = sym c.before.in_range.ensures ∙ not-false c.before.in_range.result c.if-not-in_range.false-raw
-
-  ranging : from started 1 ≡ from started 0
-  ranging =
-      read_range_passes started.args.p started.args.offline.now (disk_in started) (memory_in started) started.args.address.0 started.args.len in_range_holds
-
-pub lent_ok-requires : goal.lent_ok-requires
-lent_ok-requires c = in_range_holds c.before
-
-pub returns-then-not-lent_ok : goal.returns-then-not-lent_ok
-returns-then-not-lent_ok c =
-    let at_else = c.before.before.before in
-    let start = at_else.before.before.before.before.before.before.before.before.before.before in
-    let lent = c.lent_ok in record {
-      result_value = read_lengths_fail c.args.p c.args.offline.now (disk_in start) (memory_in start) c.args.address.0 c.args.len
-          (sym (lent.ensures (memory_in start).state) ∙ not-true lent.result c.if-not-lent_ok.true-raw) ∙ ranging at_else;
-      gives = tt;
-    }
-
-module _ (c : Else2) where
-  abbrev looked_at : Start
-  looked_at = c.before.before.before.before.before.before.before.before.before.before.before.before
-
-  -- the lent buffers have their lengths
-  lent : lent_ok_of looked_at.args.p looked_at.args.offline.now (disk_in looked_at) (memory_in looked_at) ≡ true
-  lent = sym (c.before.lent_ok.ensures (memory_in looked_at).state) ∙ not-false c.before.lent_ok.result c.if-not-lent_ok.false-raw
 
 pub returns-then-len-p : goal.returns-then-len-p
 returns-then-len-p c =
-    let at_else = c.before.before.before in
-    let start = at_else.before.before.before.before.before.before.before.before.before.before.before.before in
-    let at_else' = c.before.before.before.before.before in record {
-      result_value = read_block_fails c.args.p c.args.offline.now (disk_in start) (memory_in start) c.args.address.0 c.args.len
-          (lent at_else) c.if-len-p.true ∙ ranging at_else';
-      gives = tt;
+    let q = (goal.at.returns-then-len-p c).In_ok-lent_ok in
+    record { result_value = read_block_fails _ _ _ _ _ _ (lent q) c.if-len-p.true ∙ read_range_passes _ _ _ _ _ _ (in_range_holds q); gives = tt }
+
+pub list_rule-requires-clause-offline_len : goal.list_rule-requires-clause-offline_len
+list_rule-requires-clause-offline_len c = (lent_long_lem _ _ _ _ (lent (goal.at.list_rule-requires-clause-offline_len c).In_ok-lent_ok)).5
+
+pub returns-in_err-list_rule : goal.returns-in_err-list_rule
+returns-in_err-list_rule c =
+    let q = (goal.at.returns-in_err-list_rule c).In_ok-lent_ok in record {
+      result_value = passed_on _ c.in_err-list_rule.field-0.0 c.from_residual-in_err-list_rule.ensures.1 ∙ read_list_fails _ _ _ _ _ _ _ c.in_err-list_rule.ensures
+          ∙ read_lent _ _ _ _ _ _ (in_range_holds q) (lent q) c.if-len-p.false;
+      gives = gives_none _ _ _ _ _ _ _ _ c.in_err-list_rule.field-0.0 c.from_residual-in_err-list_rule.ensures.1;
     }
-
-module _ (c : Else3) where
-  abbrev lengths : Start
-  lengths = c.before.before.before.before.before.before.before.before.before.before.before.before.before.before
-
-  longs : from lengths 2 ≡ from lengths 0
-  longs =
-      read_lengths_pass lengths.args.p lengths.args.offline.now (disk_in lengths) (memory_in lengths) lengths.args.address.0 lengths.args.len
-      (lent c.before.before) c.if-len-p.false ∙ ranging c.before.before.before.before
-
-pub list_rule-rule-requires : goal.list_rule-rule-requires
-list_rule-rule-requires c =
-    let at_else' = c.before.before.before in
-    let at_else = at_else'.before.before in
-    let s = lengths c.before in record { p_value = in_range_holds at_else; offline_len = (lent_long_lem s.args.p s.args.offline.now (disk_in s) (memory_in s) (lent at_else')).5 }
-
-pub returns-then-rule-ne0 : goal.returns-then-rule-ne0
-returns-then-rule-ne0 c =
-    let at_else = c.before.before.before in
-    let s = lengths at_else in record {
-      result_value = read_list_fails s.args.p s.args.offline.now (disk_in s) (memory_in s) s.args.address.0 s.args.len
-          c.list_rule-rule.result c.list_rule-rule.ensures c.if-rule-ne0.true ∙ longs at_else;
-      gives = tt;
-    }
-
-module _ (c : Else4) where
-  abbrev listed : Start
-  listed = lengths c.before.before
-
-  enough : from listed 4 ≡ from listed 0
-  enough =
-      read_list_passes listed.args.p listed.args.offline.now (disk_in listed) (memory_in listed) listed.args.address.0 listed.args.len
-      c.before.list_rule-rule.result c.before.list_rule-rule.ensures c.if-rule-ne0.false ∙ longs c.before.before
 
 pub returns-then-p-address : goal.returns-then-p-address
 returns-then-p-address c =
-    let at_else = c.before.before.before in
-    let s = listed at_else in record {
-      result_value = read_address_fails s.args.p s.args.offline.now (disk_in s) (memory_in s) s.args.address.0 s.args.len
-          (omega (arith, c.if-p-address.true)) ∙ enough at_else;
-      gives = tt;
-    }
-
-module _ (c : Else5) where
-  abbrev addressed : Start
-  addressed = listed c.before.before
-
-  lows : from addressed 5 ≡ from addressed 0
-  lows =
-      read_address_passes addressed.args.p addressed.args.offline.now (disk_in addressed) (memory_in addressed) addressed.args.address.0 addressed.args.len
-      (omega (arith, c.if-p-address.false)) ∙ enough c.before.before
-
-pub state_ok-requires : goal.state_ok-requires
-state_ok-requires c =
-    let at_else = c.before.before.before.before.before.before.before.before.before in record { p_value = in_range_holds at_else; bytes_len = (addressed c.before).requires.0 }
+    let q = (goal.at.returns-then-p-address c).In_ok-list_rule in
+    record { result_value = read_address_fails _ _ _ _ _ _ (omega (arith, c.if-p-address.true)) ∙ enough q; gives = tt }
 
 pub returns-then-not-state_ok : goal.returns-then-not-state_ok
 returns-then-not-state_ok c =
-    let at_else = c.before.before.before in
-    let s = addressed at_else in
-    let state = c.state_ok in record {
-      result_value = read_state_fails s.args.p s.args.offline.now (disk_in s) (memory_in s) s.args.address.0 s.args.len
-          (sym state.ensures ∙ not-true state.result c.if-not-state_ok.true-raw) ∙ lows at_else;
+    let q = (goal.at.returns-then-not-state_ok c).In_ok-list_rule in record {
+      result_value = read_state_fails _ _ _ _ _ _ (sym c.state_ok.ensures ∙ c.if-not-state_ok.true) ∙ read_address_passes _ _ _ _ _ _ (omega (arith, c.if-p-address.false)) ∙ enough q;
       gives = tt;
     }
 
-pub missing-gone-requires : goal.missing-gone-requires
-missing-gone-requires c =
-    let at_else = c.before.before.before in
-    (addressed at_else).requires.0
-
 -- what is so before the lookup
-module _ (c : Else6) where
-  abbrev sound : Start
-  sound = addressed c.before.before
+module _ (c : Else-not-state_ok) where
+  state_fine : state_ok c.args.p (state_of c.args.state.now) ≡ true
+  state_fine = sym c.state_ok.ensures ∙ c.if-not-state_ok.false
 
-  ok : in_range sound.args.p ≡ true
-  ok = in_range_holds c.before.before.before.before.before.before.before.before.before.before
-
-  long : lent_ok_of sound.args.p sound.args.offline.now (disk_in sound) (memory_in sound) ≡ true
-  long = lent c.before.before.before.before.before.before.before.before
-
-  state_fine : state_ok sound.args.p (memory_in sound).state ≡ true
-  state_fine = sym c.before.state_ok.ensures ∙ not-false c.before.state_ok.result c.if-not-state_ok.false-raw
-
-  present_one : Here sound.args.p (memory_in sound).state.missing
-  present_one =
-      let r = ranged sound.args.p ok in
-      let t = state_of_lem sound.args.p r (memory_in sound).state state_fine in
-      few_here sound.args.p r (memory_in sound).state.missing t.missing_low t.missing_few
+  present_one : in_range c.args.p ≡ true → Here c.args.p (state_of c.args.state.now).missing
+  present_one ok =
+      let r = ranged c.args.p ok in
+      let t = state_of_lem c.args.p r (state_of c.args.state.now) state_fine in
+      few_here c.args.p r (state_of c.args.state.now).missing t.missing_low t.missing_few
 
 pub lies-f-requires : goal.lies-f-requires
 lies-f-requires c =
-    let s = sound c.before.before in record {
-      p_value = ok c.before.before;
-      addresses_len =
-          ((lent_long_lem s.args.p s.args.offline.now (disk_in s) (memory_in s) (long c.before.before)).2, omega (arith, c.if-p-address.false));
-    }
+    let q = (goal.at.lies-f-requires c).In_ok-lent_ok in
+    record { p_value = in_range_holds q; addresses_len = ((lent_long_lem _ _ _ _ (lent q)).2, omega (arith, c.if-p-address.false)) }
+
+pub invariant_of-seek_found : goal.invariant_of-seek_found
+invariant_of-seek_found c =
+    let q = (goal.at.invariant_of-seek_found c).In_ok-lent_ok in
+    let l = lent_long_lem _ _ _ _ (lent q) in
+    record { sound = in_range_holds q; whole = record { image_long = l.0; pointers_long = l.1 }; listed = l.5 }
 
 pub seek_found-requires : goal.seek_found-requires
 seek_found-requires c =
-    let at_else = c.before.before.before.before in
-    let s = sound at_else in
-    let p = s.args.p in
-    let l = lent_long_lem p s.args.offline.now (disk_in s) (memory_in s) (long at_else) in
+    let a = c.args in
+    let g = goal.at.seek_found-requires c in
+    let q = g.In_ok-lent_ok in
+    let l = lent_long_lem _ _ _ _ (lent q) in
     let gone = c.missing-gone in
-    let looked = c.lies-f in record {
-      p_value = ok at_else;
-      whole =
-          (record { image_long = l.0; pointers_long = l.1 }, l.5, subst (Here p) (sym gone.ensures) (present_one at_else));
-      compact_len =
-          (l.3, s.requires.1, subst (Sorted p gone.result) (sym looked.ensures) (lies_sorted p gone.result s.args.addresses.now s.args.address.0));
+    record {
+      here = subst (Here a.p) (sym gone.ensures) (present_one g.Else-not-state_ok (in_range_holds q));
+      compact_len = (l.3, c.requires.1, subst (Sorted a.p gone.result) (sym c.lies-f.ensures) (lies_sorted a.p gone.result a.addresses.now a.address.0));
     }
 
 pub returns : goal.returns
 returns c =
-    let at_else = c.before.before.before.before.before.before.before in
-    let at_else' = at_else.before.before in
-    let s = sound at_else in
-    let p = s.args.p in
-    let m = memory_in s in
+    let a = c.args in
+    let g = goal.at.returns c in
+    let m = memory_in g.In_ok-lent_ok in
     let found = c.seek_found in
-    let looked = c.lies-f in
-    let gone = c.missing-gone in
-    let v = view_of p s.args.offline.now s.args.image.now s.args.pointers.now in
-    let g : gone.result ≡ m.state.missing = gone.ensures in
-    let f : found_of looked.result ≡ found_at s.args.p s.args.offline.now (disk_in s) (memory_in s) s.args.address.0 s.args.len
-    = looked.ensures ∙ ap (λ (x : ℕ). lies p x m.addresses s.args.address.0) g in
-    let q = transport (λ j. SeeksAll p s.args.image.now v (g j) m.compact (f j) found.result found.new.bytes) found.ensures in
-    record { result_value = q.0 ∙ read_state_passes s.args.p s.args.offline.now (disk_in s) (memory_in s) s.args.address.0 s.args.len (state_fine at_else) ∙ lows at_else'; gives = q.1 }
+    let v = view_of a.p a.offline.now a.image.now a.pointers.now in
+    let e : c.missing-gone.result ≡ m.state.missing = c.missing-gone.ensures in
+    let f : found_of c.lies-f.result ≡ found_at a.p a.offline.now (disk_in g.In_ok-lent_ok) m a.address.0 a.len = c.lies-f.ensures ∙ ap (λ (x : ℕ). lies a.p x m.addresses a.address.0) e in
+    let q = transport (λ j. SeeksAll a.p a.image.now v (e j) m.compact (f j) found.result found.new.bytes) found.ensures in
+    record {
+      result_value = q.0 ∙ read_state_passes _ _ _ _ _ _ (state_fine g.Else-not-state_ok) ∙ read_address_passes _ _ _ _ _ _ (omega (arith, c.if-p-address.false)) ∙ enough g.In_ok-list_rule;
+      gives = q.1;
+    }

@@ -3,7 +3,6 @@ use mathlib.Core.Path.{◌≡◌, sym, ap, ◌∙◌}
 use mathlib.Core.Bool.{Bool, true, false, not, ◌&&◌}
 use Prim.Native.Nat.{ℕ}
 use native.Mathlib.Omega.{arith}
-use borrow.Author.Tests.{ne_eqb}
 use Rattle.spec.specs.Drives.{view_of, zone_on}
 use Rattle.spec.specs.Lists.{is_nil, first_or, is_in}
 use Rattle.spec.specs.Memory.{shown_at}
@@ -19,9 +18,8 @@ returns-then-has_drive c =
     let r = ranged a.p q.p_value in
     let t : is_in a.gone a.drive ≡ true = sym c.has_drive.ensures ∙ c.if-has_drive.true in
     λ off im h. record {
-      low = omega arith;
-      hidden = ne_eqb 0 a.p.S (λ e. let w : ⊥ = omega (arith, e, r.stripes_low) in w)
-          ∙ sym (ap (λ (x : Bool). not x && is_nil (shown_at a.p (view_of a.p off im a.pointers.now) a.compact.now a.drive (zone_on a.segment a.drive) a.s)) t);
+      low = omega (arith, r.stripes_low);
+      hidden = sym (ap (λ (x : Bool). not x && is_nil (shown_at a.p (view_of a.p off im a.pointers.now) a.compact.now a.drive (zone_on a.segment a.drive) a.s)) t);
       first = λ e. absurd (not_both (is_in a.gone a.drive) t e);
     }
 

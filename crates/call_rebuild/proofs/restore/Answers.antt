@@ -1,6 +1,6 @@
 -- `restore`: with no fault the rows are apart, the records good and the stores fit; then `ends_rebuild_cut` or `ends_rebuild_done`. Assumes nothing.
 -- image and pointers, and the rest
-use mathlib.Core.Path.{◌∙◌}
+use mathlib.Core.Path.{sym, ◌∙◌}
 use native.Mathlib.Omega.{arith}
 use Rattle.spec.specs.Drives.{Disk, mk_disk}
 use Rattle.call_rebuild.specs.Order.{rebuild_ready}
@@ -42,22 +42,21 @@ rebuild_stores-made-requires c =
       all_fit = stores_fit p off k m d rd q.drive_value_2 a.kept.now a.serials.now a.rows.now q.ends_gathered (λ i. omega (arith, slice-known.given i));
     }
 
-pub returns-then-made : goal.returns-then-made
-returns-then-made c =
+pub returns-then-is_err : goal.returns-then-is_err
+returns-then-is_err c =
     let cut = c.cut in
-    let if1 = c.if-made in
     let z = c.rebuild_stores-made in
     let a = c.args in
     let q = c.requires in
     let p = a.p in
     let d = a.drive in
     let off = a.offline.now in
-    let k = disk_in (goal.at.returns-then-made c).Start in
-    let m = memory_in (goal.at.returns-then-made c).Start in
+    let k = disk_in (goal.at.returns-then-is_err c).Start in
+    let m = memory_in (goal.at.returns-then-is_err c).Start in
     let rd = rebuild_ready p off k m d q.drive_value in
     ends_rebuild_cut p off k m d a.count (rebuild_faultless p off k m d q.drive_value q.drive_value_2) z.result (mk_disk z.new.image z.new.pointers)
     (drive_stores p off d (seen p off k) a.kept.now a.serials.now a.rows.now)
-    (stores_are p off k m d rd q.drive_value_2 a.kept.now a.serials.now a.rows.now q.ends_gathered) z.ensures if1.true rd.lent
+    (stores_are p off k m d rd q.drive_value_2 a.kept.now a.serials.now a.rows.now q.ends_gathered) z.ensures (sym c.is_err.ensures.value ∙ c.if-is_err.true) rd.lent
     cut.result cut.new.addresses cut.new.compact cut.ensures.answer_value.0 cut.ensures.answer_value.1 cut.ensures.addresses_after.0 cut.ensures.addresses_after.1
 
 pub returns : goal.returns
@@ -73,4 +72,4 @@ returns c =
     let rd = rebuild_ready p off k m d q.drive_value in
     ends_rebuild_done p off k m d a.count (rebuild_faultless p off k m d q.drive_value q.drive_value_2) z.result (mk_disk z.new.image z.new.pointers)
     (drive_stores p off d (seen p off k) a.kept.now a.serials.now a.rows.now)
-    (stores_are p off k m d rd q.drive_value_2 a.kept.now a.serials.now a.rows.now q.ends_gathered) z.ensures c.if-made.false
+    (stores_are p off k m d rd q.drive_value_2 a.kept.now a.serials.now a.rows.now q.ends_gathered) z.ensures (sym c.is_err.ensures.value ∙ c.if-is_err.false)

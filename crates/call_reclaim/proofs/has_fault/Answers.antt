@@ -2,7 +2,6 @@
 use Rattle.spec.specs.Memory.{state_of}
 use Rattle.call_reclaim.specs.Choosing.{fault_state, fault_table}
 use Rattle.call_reclaim_victim.specs.Outside.{outside_told}
-use borrow.Author.Tests.{not-true, not-false}
 use mathlib.Core.Path.{sym, ◌∙◌}
 use Rattle.call_reclaim.proofs.has_fault.Goals as goal
 
@@ -10,10 +9,10 @@ pub returns-then-not-state_ok : goal.returns-then-not-state_ok
 returns-then-not-state_ok c =
     let a = c.args in
     let ok = c.state_ok in
-    λ v tb zs e. fault_state a.p v (state_of a.bytes.now) tb zs (sym ok.ensures ∙ not-true ok.result c.if-not-state_ok.true-raw)
+    λ v tb zs e. fault_state a.p v (state_of a.bytes.now) tb zs (sym ok.ensures ∙ c.if-not-state_ok.true)
 
 pub returns : goal.returns
 returns c =
     let a = c.args in
     let ok = c.state_ok in
-    λ v tb zs e. fault_table a.p v (state_of a.bytes.now) tb zs (sym ok.ensures ∙ not-false ok.result c.if-not-state_ok.false-raw) a.outside (outside_told a.p v tb a.outside e)
+    λ v tb zs e. fault_table a.p v (state_of a.bytes.now) tb zs (sym ok.ensures ∙ c.if-not-state_ok.false) a.outside (outside_told a.p v tb a.outside e)

@@ -16,8 +16,8 @@ use Rattle.call_reclaim_entries.proofs.add_entry.Tie
 abbrev After-zone_number : Type 0
 After-zone_number = Lts.After-zone_number Tie.the-claims Reads.Pre Reads.Post Tie.handed_clauses
 
-abbrev After-wide : Type 0
-After-wide = Lts.After-wide Tie.the-claims Reads.Pre Reads.Post Tie.handed_clauses
+abbrev After-from : Type 0
+After-from = Lts.After-from Tie.the-claims Reads.Pre Reads.Post Tie.handed_clauses
 
 pub returns-then-all-q : goal.returns-then-all-q
 returns-then-all-q c =
@@ -51,16 +51,16 @@ pub bounds-segments-t : goal.bounds-segments-t
 bounds-segments-t c = in_zones c.before.before
 
 -- the segment, as it is read
-its_segment : (c : After-wide)
-    → c.wide-g.result
+its_segment : (c : After-from)
+    → c.from-g.result
     ≡ get_or c.before.before.before.before.before.before.args.segments.now
     (c.before.before.before.before.before.before.args.q / c.before.before.before.before.before.before.args.cap) 0
 its_segment c =
     let start = c.before.before.before.before.before.before in
-    c.wide-g.ensures ∙ ap (λ (x : ℕ). get_or start.args.segments.now x 0) c.before.before.zone_number-t.ensures
+    c.from-g.ensures ∙ ap (λ (x : ℕ). get_or start.args.segments.now x 0) c.before.before.zone_number-t.ensures
 
 -- it has a count
-counted : (c : After-wide) → c.wide-g.result < length c.before.before.before.before.before.before.args.used.now
+counted : (c : After-from) → c.from-g.result < length c.before.before.before.before.before.before.args.used.now
 counted c =
     let at_if_all_q = c.before.before.before in
     let start = at_if_all_q.before.before.before in
@@ -76,7 +76,7 @@ pub overflow_add-used : goal.overflow_add-used
 overflow_add-used c =
     let a = c.args in
     let h = c.requires.cap_bound (omega (arith, c.if-all-q.false)) in
-    let k : get_or a.used.now c.wide-g.result 0 < 18446744073709551615 = subst (λ (x : ℕ). get_or a.used.now x 0 < 18446744073709551615) (sym (its_segment c.before.before)) h in
+    let k : get_or a.used.now c.from-g.result 0 < 18446744073709551615 = subst (λ (x : ℕ). get_or a.used.now x 0 < 18446744073709551615) (sym (its_segment c.before.before)) h in
     omega (arith, k)
 
 pub offset_bounds-used-g-2 : goal.offset_bounds-used-g-2

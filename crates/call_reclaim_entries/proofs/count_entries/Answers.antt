@@ -78,12 +78,6 @@ overflow_add-k c =
     let q = place_at.result.0 in
     omega (arith, add_entry_holds.ensures.value, bit_le (is_within all! 4294967295 q), l.invariant.4, l.invariant.0, addresses_all c.args.p (ranged c.args.p c.requires.p_value))
 
-pub overflow_add-a : goal.overflow_add-a
-overflow_add-a c = omega arith
-
-pub loop-a-smaller : goal.loop-a-smaller
-loop-a-smaller c = omega arith
-
 pub loop-a-preserved : goal.loop-a-preserved
 loop-a-preserved c =
     let add_entry_holds = c.add_entry-k in

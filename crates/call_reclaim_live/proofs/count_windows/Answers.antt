@@ -21,13 +21,13 @@ loop-first-init c = (omega arith, refl, refl, c.requires.owners_low.1, (λ h. ab
 pub overflow_add-first : goal.overflow_add-first
 overflow_add-first c = omega arith
 
-pub clip-end-requires : goal.clip-end-requires
-clip-end-requires c = omega arith
+pub min-end-requires : goal.min-end-requires
+min-end-requires c = omega arith
 
 pub mark_window-outside-requires : goal.mark_window-outside-requires
 unfolding addresses_len
 mark_window-outside-requires c =
-    let e = c.clip-end.ensures in
+    let e = c.min-end.ensures in
     let l = c.loop-first in
     (omega (arith, c.requires.addresses_len.0), omega (arith, e, l.invariant.0), omega (arith, e, l.invariant.1))
 
@@ -38,7 +38,7 @@ count_zones-requires c =
     let pre' = c.requires in
     let i = l.invariant in
     let pre = pre'.addresses_len in
-    let e = c.clip-end.ensures in
+    let e = c.min-end.ensures in
     let k = c.mark_window-outside.auto.marks in
     let s = c.places-all.ensures in record {
       p_value = pre'.p_value;
@@ -50,7 +50,7 @@ count_zones-requires c =
 
 pub loop-first-smaller : goal.loop-first-smaller
 loop-first-smaller c =
-    window_nearer c.loop-first.first c.clip-end.result c.places-all.result (8 * length c.args.marks.now) c.loop-first-test.true (omega (arith, c.requires.addresses_len.1)) c.clip-end.ensures
+    window_nearer c.loop-first.first c.min-end.result c.places-all.result (8 * length c.args.marks.now) c.loop-first-test.true (omega (arith, c.requires.addresses_len.1)) c.min-end.ensures
 
 pub loop-first-preserved : goal.loop-first-preserved
 loop-first-preserved c =
@@ -60,7 +60,7 @@ loop-first-preserved c =
     let l = c.loop-first in
     let i = l.invariant in
     let tb = a.addresses.now in
-    let e = c.clip-end.ensures in
+    let e = c.min-end.ensures in
     let all! = c.places-all.result in
     let told = w.ensures.marks in
     let t = c.loop-first-test.true in (
@@ -68,7 +68,7 @@ loop-first-preserved c =
       w.auto.marks ∙ i.1,
       z.auto.live ∙ i.2,
       z.ensures tb told i.3,
-      (λ h m. only_window tb w.new.marks a.p.L l.first c.clip-end.result all! (8 * length a.marks.now) told (λ y. (i.4 y m).0) t e m),
+      (λ h m. only_window tb w.new.marks a.p.L l.first c.min-end.result all! (8 * length a.marks.now) told (λ y. (i.4 y m).0) t e m),
       λ _. w.ensures.value,
     )
 

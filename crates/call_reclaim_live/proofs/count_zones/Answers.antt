@@ -18,8 +18,8 @@ After-capacity = Lts.After-capacity Tie.the-claims Reads.Pre Reads.Post goal.the
 abbrev After-count_marks : Type 0
 After-count_marks = Lts.After-count_marks Tie.the-claims Reads.Pre Reads.Post goal.the-invariant-loop-at goal.the-decreases-loop-at Tie.handed_clauses
 
-abbrev After-wide : Type 0
-After-wide = Lts.After-wide Tie.the-claims Reads.Pre Reads.Post goal.the-invariant-loop-at goal.the-decreases-loop-at Tie.handed_clauses
+abbrev After-from : Type 0
+After-from = Lts.After-from Tie.the-claims Reads.Pre Reads.Post goal.the-invariant-loop-at goal.the-decreases-loop-at Tie.handed_clauses
 
 pub capacity-cap-requires : goal.capacity-cap-requires
 capacity-cap-requires c = c.requires.p_value
@@ -40,8 +40,8 @@ overflow_add-at c =
     let at_capacity = c.before.before.before in
     omega (arith, c.capacity-cap.ensures.2, end_low at_capacity)
 
-pub clip-to-requires : goal.clip-to-requires
-clip-to-requires c = omega arith
+pub clamp-to-requires : goal.clamp-to-requires
+clamp-to-requires c = omega arith
 
 pub overflow_sub-from : goal.overflow_sub-from
 overflow_sub-from c = omega arith
@@ -52,7 +52,7 @@ overflow_sub-to c = omega arith
 pub count_marks-n-requires : goal.count_marks-n-requires
 count_marks-n-requires c =
     let at_capacity = c.before.before.before.before in
-    omega (arith, c.clip-to.ensures, c.loop-at.invariant.0, c.requires.first_le_end, end_low at_capacity)
+    omega (arith, c.clamp-to.ensures, c.loop-at.invariant.0, c.requires.first_le_end, end_low at_capacity)
 
 -- zone t is one of the zones, and has a number
 zone_in : (c : After-count_marks) → let a = c.before.before.before.before.before.before.before.before.args in
@@ -76,8 +76,8 @@ pub bounds-segments-t : goal.bounds-segments-t
 bounds-segments-t c = omega (arith, (zone_in c.before.before).0, c.requires.first_le_end.4.0)
 
 -- the number of its segment
-number_low : (c : After-wide) → c.wide-g.result ≤ 1024
-number_low c = omega (arith, c.wide-g.ensures, (zone_in c.before.before).1)
+number_low : (c : After-from) → c.from-g.result ≤ 1024
+number_low c = omega (arith, c.from-g.ensures, (zone_in c.before.before).1)
 
 pub offset_bounds-live-g : goal.offset_bounds-live-g
 offset_bounds-live-g c = omega (arith, number_low c.before)
@@ -91,9 +91,9 @@ overflow_add-live c =
     let at_capacity = c.before.before.before.before.before.before.before.before in
     let a = c.args in
     let l = c.loop-at in
-    let clip = c.clip-to in
+    let clip = c.clamp-to in
     let i = l.invariant in
-    let g = c.wide-g.result in
+    let g = c.from-g.result in
     let h : l.from ≤ a.end = omega (arith, i.0) in
     let k : clip.result - a.first ≤ a.end = omega (arith, clip.ensures) in
     let m : c.count_marks-n.result ≤ clip.result - a.first = omega (arith, c.count_marks-n.ensures.1) in
@@ -128,9 +128,9 @@ loop-at-preserved c =
     let i = l.invariant in
     let cap! = c.capacity-cap in
     let r = ranged a.p c.requires.p_value in
-    let g = c.wide-g.result in
-    let to = c.clip-to.result in
-    let et = c.clip-to.ensures in
+    let g = c.from-g.result in
+    let to = c.clamp-to.result in
+    let et = c.clamp-to.ensures in
     let n = c.count_marks-n.result in
     let en = c.count_marks-n.ensures in
     let ec = cap!.ensures.0 in
@@ -139,7 +139,7 @@ loop-at-preserved c =
     let low : a.first ≤ l.from = omega (arith, i.0, pre.0) in
     let mid : l.from ≤ to = omega (arith, i.0, et, pre.0) in
     let high : to ≤ a.end = omega (arith, et) in (
-      et,
+      omega (arith, et, pre.0),
       ap (λ (x : ℕ). l.at + x) ec ∙ ap (λ (x : ℕ). x + capacity a.p) at ∙ sym (live_zone_begins a.p r l.t) ∙ ap (λ (x : ℕ). (l.t + 1) * x) (sym ec),
       omega (arith, length-set l.live g (get_or l.live g 0 + n), i.2),
       bounded_more 1024 l.live g (get_or l.live g 0 + n) l.from to i.3 fits (omega (arith, i.3 g (number_low c.before.before), en.1, mid, low)) mid,
@@ -147,7 +147,7 @@ loop-at-preserved c =
           (λ q x y.
           let w : q / capacity p ≡ l.t = ap (λ (k : ℕ). q / k) (sym e ∙ ec)
           ∙ live_zone_at a.p r l.t q (omega (arith, i.0, et, pre.0, at, x, y)) (omega (arith, i.0, et, pre.0, at, ec, x, y)) in
-          ap (λ (k : ℕ). get_or a.segments.now k 0) w ∙ sym c.wide-g.ensures) en.0 (i.4 p e tb told so)),
+          ap (λ (k : ℕ). get_or a.segments.now k 0) w ∙ sym c.from-g.ensures) en.0 (i.4 p e tb told so)),
       omega (arith, cap!.ensures.2, c.loop-at-test.true),
     )
 

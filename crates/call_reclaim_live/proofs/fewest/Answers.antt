@@ -1,5 +1,6 @@
 -- `fewest`: best is the lowest of the sealed segments below g with the least count; a turn weighs g (`least_turn`). Assumes nothing.
 use Prim.Native.Nat.{ℕ}
+use Rattle.std.specs.Prelude.{unwrap_or}
 use Rattle.call_reclaim_live.specs.Least.{Least, least_none, least_turn}
 use mathlib.Core.Path.{◌≡◌, subst}
 use native.Mathlib.Omega.{arith}
@@ -8,24 +9,18 @@ use Rattle.call_reclaim_live.proofs.fewest.Goals as goal
 pub loop-g-init : goal.loop-g-init
 loop-g-init c =
     let a = c.args in
-    (omega arith, least_none a.p a.sealed.now a.live.now a.p.Z (omega arith))
-
-pub overflow_add-g : goal.overflow_add-g
-overflow_add-g c = omega arith
-
-pub loop-g-smaller : goal.loop-g-smaller
-loop-g-smaller c = omega arith
+    (least_none a.p a.sealed.now a.live.now a.p.Z (omega arith), tt)
 
 pub loop-g-preserved : goal.loop-g-preserved
 loop-g-preserved c =
     let a = c.args in
     let l = c.loop-g in
-    let t = c.loop-g-test.true in
-    (omega (arith, t), least_turn a.p a.sealed.now a.live.now l.g l.best l.invariant.1 t c.better-best.result c.better-best.ensures)
+    let b = c.better-best in
+    (least_turn a.p a.sealed.now a.live.now l.g (unwrap_or l.best a.p.Z) l.invariant.0 c.loop-g-test.true (unwrap_or b.result a.p.Z) b.ensures.pick, b.ensures.low)
 
-pub returns : goal.returns
-returns c =
+pub returns-clause-least : goal.returns-clause-least
+returns-clause-least c =
     let a = c.args in
     let l = c.loop-g in
-    let e : l.g ≡ a.p.Z = omega (arith, c.loop-g-test.false, l.invariant.0) in
-    subst (λ (x : ℕ). Least a.p a.sealed.now a.live.now x l.best) e l.invariant.1
+    let e : l.g ≡ a.p.Z = omega arith in
+    subst (λ (x : ℕ). Least a.p a.sealed.now a.live.now x (unwrap_or l.best a.p.Z)) e l.invariant.0

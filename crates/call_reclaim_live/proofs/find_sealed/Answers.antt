@@ -19,12 +19,6 @@ is_sealed_at-requires c =
 pub bounds-sealed-g : goal.bounds-sealed-g
 bounds-sealed-g c = omega (arith, c.loop-g.invariant.1, c.loop-g-test.true, c.requires.z_in_bounds)
 
-pub overflow_add-g : goal.overflow_add-g
-overflow_add-g c = omega arith
-
-pub loop-g-smaller : goal.loop-g-smaller
-loop-g-smaller c = omega arith
-
 pub loop-g-preserved : goal.loop-g-preserved
 loop-g-preserved c =
     let a = c.args in

@@ -1,6 +1,5 @@
 -- `places`: N * Z is at most 8192 and the capacity at most 87381, so the product is at most 715825152. Assumes nothing.
 use Prim.Native.Nat.{ℕ, ◌*◌}
-use Rattle.spec.specs.Params.{capacity}
 use Rattle.law_basic.specs.Geometry.{prod_le, ranged, zones_all}
 use mathlib.Core.Path.{ap}
 use native.Mathlib.Omega.{arith}

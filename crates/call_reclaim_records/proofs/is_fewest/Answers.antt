@@ -20,12 +20,6 @@ is_enough-requires c = record {
 pub returns-then-not-is_enough : goal.returns-then-not-is_enough
 returns-then-not-is_enough c = λ t. absurd (not_both false t refl)
 
-pub overflow_add-g : goal.overflow_add-g
-overflow_add-g c = omega arith
-
-pub loop-g-smaller : goal.loop-g-smaller
-loop-g-smaller c = omega (arith, c.loop-g-test.true)
-
 pub loop-g-preserved : goal.loop-g-preserved
 loop-g-preserved c =
     let a = c.args in

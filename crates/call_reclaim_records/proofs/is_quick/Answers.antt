@@ -35,13 +35,6 @@ pub overflow_add-t : goal.overflow_add-t
 overflow_add-t c =
     omega (arith, c.asked-t.ensures, c.loop-g.invariant.1, c.loop-g-test.true, (ranged c.args.p c.requires.p_value).zones_high)
 
-pub overflow_add-g : goal.overflow_add-g
-overflow_add-g c =
-    omega (arith, c.loop-g-test.true, (ranged c.args.p c.requires.p_value).zones_high)
-
-pub loop-g-smaller : goal.loop-g-smaller
-loop-g-smaller c = omega (arith, c.loop-g-test.true)
-
 pub loop-g-preserved : goal.loop-g-preserved
 loop-g-preserved c =
     (omega (arith, c.loop-g-test.true), omega (arith, c.asked-t.ensures, c.loop-g.invariant.1))

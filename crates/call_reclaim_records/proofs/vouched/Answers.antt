@@ -50,13 +50,6 @@ pub overflow_add-c : goal.overflow_add-c
 overflow_add-c c =
     omega (arith, more (goal.at.overflow_add-c c).After-vouched_zone-c, c.loop-d-test.true, (ranged c.args.p c.requires.p_value).drives_high)
 
-pub overflow_add-d : goal.overflow_add-d
-overflow_add-d c =
-    omega (arith, c.loop-d-test.true, (ranged c.args.p c.requires.p_value).drives_high)
-
-pub loop-d-smaller : goal.loop-d-smaller
-loop-d-smaller c = omega (arith, c.loop-d-test.true)
-
 pub loop-d-preserved : goal.loop-d-preserved
 loop-d-preserved c =
     let a = c.args in

@@ -77,12 +77,6 @@ within c =
 pub overflow_add-c : goal.overflow_add-c
 overflow_add-c c = omega (arith, within c.before)
 
-pub overflow_add-i : goal.overflow_add-i
-overflow_add-i c = omega arith
-
-pub loop-i-smaller : goal.loop-i-smaller
-loop-i-smaller c = omega arith
-
 pub loop-i-preserved : goal.loop-i-preserved
 loop-i-preserved c = (omega arith, one_more c.before, within c.before)
 

@@ -19,12 +19,6 @@ returns-then-sealed-g c =
     let l = c.loop-g in
     sym (any_found (λ k. get_or a.sealed.now k false) l.g a.p.Z c.loop-g-test.true c.if-sealed-g.true) ∙ l.invariant.1
 
-pub overflow_add-g : goal.overflow_add-g
-overflow_add-g c = omega arith
-
-pub loop-g-smaller : goal.loop-g-smaller
-loop-g-smaller c = omega (arith, c.loop-g-test.true)
-
 pub loop-g-preserved : goal.loop-g-preserved
 loop-g-preserved c =
     let a = c.args in

@@ -8,7 +8,4 @@ use mathlib.Core.Path.{◌≡◌}
 use Rattle.call_reclaim_victim.proofs.any_sealed.Given as goal
 
 abbrev pub invariant-loop-g : goal.invariant-loop-g
-invariant-loop-g l = (l.g ≤ l.p.Z) × (any (λ k. get_or l.sealed k false) (up_from l.g (l.p.Z - l.g)) ≡ any (λ k. get_or l.sealed k false) (below l.p.Z))
-
-abbrev pub decreases-loop-g : goal.decreases-loop-g
-decreases-loop-g l = l.p.Z - l.g
+invariant-loop-g l = (l.g ≤ l.fn.p.Z) × (any (λ k. get_or l.sealed k false) (up_from l.g (l.fn.p.Z - l.g)) ≡ any (λ k. get_or l.sealed k false) (below l.fn.p.Z))

@@ -9,8 +9,8 @@ use Rattle.call_reclaim_victim.proofs.find_kept.Goals as goal
 
 pub gather-requires : goal.gather-requires
 gather-requires c =
-    let p = c.args.p in
-    let r = ranged p c.requires.p_value in
+    let p = c.args.drives.now.p in
+    let r = ranged p c.args.drives.now.sound in
     let serials = subst (λ (x : ℕ). p.Z ≤ x) (sym (length-replicate {A = ℕ} 1024 0)) r.zones_high in
     let left = subst (λ (x : ℕ). p.Z ≤ x) (sym (length-replicate {A = Bool} 1024 false)) r.zones_high in
-    record { p_value = c.requires.p_value; whole = (c.requires.whole.0, c.requires.whole.1, zero_here p r); z_in_bounds = (c.requires.z_in_bounds.0, serials, left, c.requires.z_in_bounds.1) }
+    record { here = zero_here p r; z_in_bounds = (c.requires.z_in_bounds.0, serials, left, c.requires.z_in_bounds.1) }

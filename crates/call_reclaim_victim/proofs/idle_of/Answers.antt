@@ -6,7 +6,6 @@ use Rattle.spec.specs.Params.{capacity}
 use Rattle.call_reclaim_victim.specs.Waiting.{waiting-at, waiting_none}
 use lib.ListN.{length}
 use mathlib.Core.List.{List}
-use mathlib.Core.Path.{refl}
 use native.Mathlib.Omega.{arith}
 use Rattle.call_reclaim_victim.proofs.idle_of.Goals as goal
 
@@ -37,4 +36,4 @@ returns c =
     let h : p.N * p.Z * capacity p ≤ 8 * length a.marks.now = omega (arith, s, c.if-marks-all.false) in
     λ off. waiting-at p (v off) st a.segment tb c.places-all.result (p.N * p.Z * capacity p) c.idle_zones.result s
     (c.idle_zones.ensures off tb (λ q x y. pre.marks h q x (omega (arith, y, s)))
-    (waiting_none p (v off) st a.segment tb (record { first = record { 0 = 4294967295 }; odd = 1024 }) refl refl))
+    (waiting_none p (v off) st a.segment tb))

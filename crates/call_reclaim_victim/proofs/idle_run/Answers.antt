@@ -82,7 +82,7 @@ loop-q-preserved c =
       λ off tb told same w.
           idle-step a.p (v off) (state_of a.bytes.now) a.segment tb a.marks.now a.first a.hi told (a.first + k) l.found c.idle_step-found.result (omega arith) (omega (arith, f))
           (same (a.first + k) (omega (arith, low, l.invariant.0)) (omega (arith, f)) ∙ not-false a.mine c.if-not-mine.false-raw)
-          (ap (is_marked a.marks.now) s ∙ n.3 (omega (arith, f))) (omega (arith, f, h.3, places_high a.p (ranged a.p pre.p_value)))
+          (ap (is_marked a.marks.now) s ∙ n.3 (omega (arith, f)))
           (run_skip a.p (v off) (state_of a.bytes.now) a.segment tb a.marks.now a.first a.hi told l.q (a.first + k) l.found (omega (arith, h.0, l.invariant.0)) low
           (omega (arith, f)) (λ j x y. n.2 j x (omega (arith, y, s))) (l.invariant.2 off tb told same w)) (c.idle_step-found.ensures off),
     )

@@ -23,19 +23,16 @@ loop-first-init c =
     let v : List ℕ → View = λ off. view_of a.p off a.image.now a.pointers.now in (
       omega arith,
       refl,
-      λ off. waiting_none a.p (v off) (state_of a.bytes.now) a.segment a.addresses.now (record { first = record { 0 = 4294967295 }; odd = 1024 }) refl refl,
+      λ off. waiting_none a.p (v off) (state_of a.bytes.now) a.segment a.addresses.now,
     )
 
 pub overflow_add-first : goal.overflow_add-first
 overflow_add-first c = omega arith
 
-pub clip-end-requires : goal.clip-end-requires
-clip-end-requires c = omega arith
-
 pub mark_window-requires : goal.mark_window-requires
 unfolding addresses_len
 mark_window-requires c =
-    let e = c.clip-end.ensures in
+    let e = c.min-end.ensures in
     let l = c.loop-first in
     (omega (arith, c.requires.addresses_len.0), omega (arith, e, l.invariant.0), omega (arith, e, l.invariant.1))
 
@@ -43,14 +40,14 @@ pub idle_zones-found-requires : goal.idle_zones-found-requires
 idle_zones-found-requires c =
     let pre = c.requires in
     let i = c.loop-first.invariant in
-    let e = c.clip-end.ensures in
+    let e = c.min-end.ensures in
     let k = c.mark_window.auto.marks in
     let s = c.places-all.ensures in record { p_value = pre.p_value; whole = pre.whole; first_le_end = (omega (arith, e, i.0), omega (arith, e, k, i.1), omega (arith, e, s.0), pre.addresses_len.3) }
 
 pub loop-first-smaller : goal.loop-first-smaller
 loop-first-smaller c =
     let l = c.loop-first in
-    let clip = c.clip-end in
+    let clip = c.min-end in
     window_nearer l.first clip.result c.places-all.result (8 * length c.args.marks.now) c.loop-first-test.true (omega (arith, c.requires.addresses_len.1)) clip.ensures
 
 pub loop-first-preserved : goal.loop-first-preserved
@@ -58,7 +55,7 @@ loop-first-preserved c =
     let a = c.args in
     let m = c.mark_window in
     let i = c.loop-first.invariant in
-    (omega (arith, c.clip-end.ensures), m.auto.marks ∙ i.1, λ off. c.idle_zones-found.ensures off a.addresses.now m.ensures.marks (i.2 off))
+    (omega (arith, c.min-end.ensures), m.auto.marks ∙ i.1, λ off. c.idle_zones-found.ensures off a.addresses.now m.ensures.marks (i.2 off))
 
 pub shape_of-marks : goal.shape_of-marks
 shape_of-marks c = c.loop-first.invariant.1

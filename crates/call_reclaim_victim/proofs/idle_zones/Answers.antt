@@ -13,7 +13,7 @@ use mathlib.Core.Path.{◌≡◌, sym, ap, ◌∙◌}
 use native.Mathlib.Nat.{zero-mul}
 use native.Mathlib.Omega.{arith}
 use Rattle.call_reclaim_victim.proofs.idle_zones.Goals as goal
-use Rattle.call_reclaim_victim.proofs.idle_zones.Goals.{After-capacity-cap, After-clip-to}
+use Rattle.call_reclaim_victim.proofs.idle_zones.Goals.{After-capacity-cap, After-clamp-to}
 
 pub capacity-cap-requires : goal.capacity-cap-requires
 capacity-cap-requires c = c.requires.p_value
@@ -29,11 +29,11 @@ end_low c =
 pub overflow_add-at : goal.overflow_add-at
 overflow_add-at c = omega (arith, c.capacity-cap.ensures.2, end_low (goal.at.overflow_add-at c).After-capacity-cap)
 
-pub clip-to-requires : goal.clip-to-requires
-clip-to-requires c = omega arith
+pub clamp-to-requires : goal.clamp-to-requires
+clamp-to-requires c = omega arith
 
 -- zone t is one of the zones
-zone_in : (c : After-clip-to) → let a = c.args in c.loop-at.t < a.p.N * a.p.Z
+zone_in : (c : After-clamp-to) → let a = c.args in c.loop-at.t < a.p.N * a.p.Z
 zone_in c =
     let a = c.args in
     let l = c.loop-at in
@@ -42,17 +42,17 @@ zone_in c =
 
 pub offset_bounds-segments-t : goal.offset_bounds-segments-t
 offset_bounds-segments-t c =
-    omega (arith, zone_in (goal.at.offset_bounds-segments-t c).After-clip-to, zones_all c.args.p (ranged c.args.p c.requires.p_value))
+    omega (arith, zone_in (goal.at.offset_bounds-segments-t c).After-clamp-to, zones_all c.args.p (ranged c.args.p c.requires.p_value))
 
 pub bounds-segments-t : goal.bounds-segments-t
-bounds-segments-t c = omega (arith, zone_in (goal.at.bounds-segments-t c).After-clip-to, c.requires.whole.2)
+bounds-segments-t c = omega (arith, zone_in (goal.at.bounds-segments-t c).After-clamp-to, c.requires.whole.2)
 
 pub idle_run-found-requires : goal.idle_run-found-requires
 idle_run-found-requires c =
     let pre = c.requires in
     let h = pre.first_le_end in
     let i = c.loop-at.invariant in
-    let e = c.clip-to.ensures in record {
+    let e = c.clamp-to.ensures in record {
       p_value = pre.p_value;
       whole = (pre.whole.0, pre.whole.1);
       first_le_lo =
@@ -65,7 +65,7 @@ overflow_add-at-in-loop-at c =
 
 pub overflow_add-t : goal.overflow_add-t
 overflow_add-t c =
-    omega (arith, zone_in (goal.at.overflow_add-t c).After-clip-to, zones_all c.args.p (ranged c.args.p c.requires.p_value))
+    omega (arith, zone_in (goal.at.overflow_add-t c).After-clamp-to, zones_all c.args.p (ranged c.args.p c.requires.p_value))
 
 pub loop-at-smaller : goal.loop-at-smaller
 loop-at-smaller c =
@@ -82,15 +82,15 @@ loop-at-preserved c =
     let r = ranged p pre.p_value in
     let h = pre.first_le_end in
     let ec = c.capacity-cap.ensures.0 in
-    let et = c.clip-to.ensures in
+    let et = c.clamp-to.ensures in
     let at : l.at ≡ l.t * capacity p = i.1 ∙ ap (λ (x : ℕ). l.t * x) ec in (
-      et,
+      omega (arith, et, h.0),
       ap (λ (x : ℕ). l.at + x) ec ∙ ap (λ (x : ℕ). x + capacity p) at ∙ sym (live_zone_begins p r l.t) ∙ ap (λ (x : ℕ). (l.t + 1) * x) (sym ec),
       (λ off tb told w. c.idle_run-found.ensures off tb (λ q x y. told q x (omega (arith, y, et)))
           (λ q x y.
           let z : q / capacity p ≡ l.t = live_zone_at p r l.t q (omega (arith, i.0, et, h.0, at, x, y)) (omega (arith, i.0, et, h.0, at, ec, x, y)) in
           sym (owned_places p r a.segments.now a.g a.segment pre.whole.3 q (omega (arith, y, et, h.2)))
-          ∙ ap (λ (k : ℕ). eqb k a.g) (ap (λ (k : ℕ). get_or a.segments.now k 0) z ∙ sym c.wide-owner.ensures)) (i.2 off tb told w)),
+          ∙ ap (λ (k : ℕ). eqb k a.g) (ap (λ (k : ℕ). get_or a.segments.now k 0) z ∙ sym c.from-owner.ensures)) (i.2 off tb told w)),
       omega (arith, c.capacity-cap.ensures.2, c.loop-at-test.true),
     )
 

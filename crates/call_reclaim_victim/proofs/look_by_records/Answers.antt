@@ -1,21 +1,19 @@
--- `look_by_records`: unsure promises nothing; no entry is no live block (`looked_empty`); all entries live, the others enough: `looked_seen`. Assumes nothing.
+-- `look_by_records`: none promises nothing; no entry is no live block (`looked_empty`); all entries live, the others enough: `looked_seen`. Assumes nothing.
 use Rattle.spec.specs.Memory.{state_of}
 use Prim.Native.Nat.{ℕ, ◌+◌, ◌*◌, ◌≤◌, ◌<◌}
-use Rattle.spec.specs.Drives.{View, view_of}
+use Rattle.spec.specs.Drives.{view_of}
 use Rattle.spec.specs.Params.{capacity, addresses_len}
 use Rattle.spec.specs.declared.Seg.{Seg}
 use Rattle.call_reclaim_live.specs.Owners.{OwnersShown}
 use Rattle.call_reclaim_entries.specs.Entries.{entered_none, taken_live}
 use Rattle.law_basic.specs.Geometry.{ranged, addresses_all}
-use Rattle.law_basic.specs.Ranges.{not_both}
 use Rattle.law_basic.specs.Segs.{ZonesLow}
 use Rattle.mem_tables.specs.Tables.{count-le}
 use Rattle.call_reclaim_victim.specs.Outside.{is_outside, outside-count}
-use Rattle.call_reclaim_victim.specs.Vouched.{Vouched, chosen_of, looked_empty, looked_seen}
-use Rattle.call_reclaim_victim.specs.declared.Told.{Told}
+use Rattle.call_reclaim_victim.specs.Vouched.{Vouched, looked_empty, looked_seen}
 use lib.Dec.{eqb}
 use lib.ListN.{length, get_or, replicate, length-replicate, get_or-replicate}
-use mathlib.Core.Bool.{true, false, not}
+use mathlib.Core.Bool.{not}
 use mathlib.Core.List.{List}
 use mathlib.Core.Path.{◌≡◌, refl, sym, ap, ◌∙◌, subst}
 use native.Mathlib.Omega.{arith}
@@ -47,8 +45,8 @@ long_used c =
     let n : length {A = ℕ} (replicate 1025 0) ≡ 1025 = length-replicate {A = ℕ} 1025 0 in
     subst (λ (x : ℕ). c.args.p.Z ≤ x) (sym (c.count_entries-beyond.auto.used ∙ n)) (omega (arith, (ranged c.args.p c.requires.p_value).zones_high))
 
-pub fewest-g-requires : goal.fewest-g-requires
-fewest-g-requires c = (c.requires.whole.1.sealed_long, long_used (goal.at.fewest-g-requires c).After-count_entries-beyond)
+pub fewest-requires : goal.fewest-requires
+fewest-requires c = (c.requires.whole.1.sealed_long, long_used (goal.at.fewest-requires c).After-count_entries-beyond)
 
 -- what lies outside, by the entries
 told_outside : (c : After-count_entries-beyond) (off : List ℕ) →
@@ -69,66 +67,52 @@ told_outside c off sh =
     sh.placed n.result (get_or used 1024 0) n.ensures.value (omega (arith, t, n.ensures.taken_counted_2.most 1024 (omega arith)))
     (λ x. omega (arith, t, n.ensures.taken_counted_2.least 1024 (omega arith) x))
 
-pub returns-then-p-g : goal.returns-then-p-g
-returns-then-p-g c = record { zone_lt_z = (λ t. absurd (not_both false t refl)); by_index = λ off sh t. absurd (not_both false t refl) }
-
 pub bounds-used-g : goal.bounds-used-g
 bounds-used-g c =
-    omega (arith, c.if-p-g.false, (ranged c.args.p c.requires.p_value).zones_high)
+    omega (arith, c.in_ok-g.ensures.low, (ranged c.args.p c.requires.p_value).zones_high)
 
 pub returns-then-n-eq0 : goal.returns-then-n-eq0
-returns-then-n-eq0 c =
+returns-then-n-eq0 c off sh =
     let a = c.args in
     let p = a.p in
-    let v : List ℕ → View = λ off. view_of p off a.image.now a.pointers.now in
+    let v = view_of p off a.image.now a.pointers.now in
     let n = c.count_entries-beyond in
-    let used = n.new.used in
-    let g = c.fewest-g.result in
-    let le = c.fewest-g.ensures in
-    let h : g < p.Z = omega (arith, c.if-p-g.false) in
-    let t : Told = record { sure = true; zone = g; live = 0; first = record { 0 = 4294967295 }; outside = not (eqb (n.result + get_or used 1024 0) 0) } in record {
-      zone_lt_z = (λ _. h);
-      by_index = λ off sh _.
-          looked_empty p (ranged p c.requires.p_value) (v off) a.addresses.now a.rows.now a.segments.now a.sealed.now sh (state_of a.bytes.now) g h (le.taken h) used n.ensures.taken_counted_2 le
-          c.if-n-eq0.true (chosen_of a.rows.now t) refl refl refl refl refl (told_outside (goal.at.returns-then-n-eq0 c).After-count_entries-beyond off sh);
-    }
+    let g = c.in_ok-g.g in
+    let le = c.in_ok-g.ensures.least in
+    let h = c.in_ok-g.ensures.low in
+    looked_empty p (ranged p c.requires.p_value) v a.addresses.now a.rows.now a.segments.now a.sealed.now sh (state_of a.bytes.now) g h (le.taken h) n.new.used n.ensures.taken_counted_2 le
+    c.if-n-eq0.true _ refl c.row-segment.ensures c.if-n-eq0.true refl refl (told_outside (goal.at.returns-then-n-eq0 c).After-count_entries-beyond off sh)
 
 pub is_quick-requires : goal.is_quick-requires
 is_quick-requires c =
     let p = c.args.p in
     let r = ranged p c.requires.p_value in
-    let low = c.count_entries-beyond.ensures.taken_counted_2.low c.fewest-g.result (omega (arith, c.if-p-g.false, r.zones_high)) in
+    let low = c.count_entries-beyond.ensures.taken_counted_2.low c.in_ok-g.g (omega (arith, c.in_ok-g.ensures.low, r.zones_high)) in
     record { p_value = c.requires.p_value; z_in_bounds = (long_used (goal.at.is_quick-requires c).After-count_entries-beyond, omega (arith, low, addresses_all p r)) }
-
-pub returns-then-not-is_quick : goal.returns-then-not-is_quick
-returns-then-not-is_quick c = record { zone_lt_z = (λ t. absurd (not_both false t refl)); by_index = λ off sh t. absurd (not_both false t refl) }
 
 pub row-segment-requires : goal.row-segment-requires
 row-segment-requires c =
-    let l = c.if-p-g.false in
+    let l = c.in_ok-g.ensures.low in
     (omega (arith, l, c.requires.whole.1.rows_long), omega (arith, l, (ranged c.args.p c.requires.p_value).zones_high))
 
 pub see_segment-seen-requires : goal.see_segment-seen-requires
 see_segment-seen-requires c =
     let nu = c.requires.whole.1 in
-    let g = c.fewest-g.result in
-    let l : g < c.args.p.Z = omega (arith, c.if-p-g.false) in
+    let g = c.in_ok-g.g in
+    let l : g < c.args.p.Z = c.in_ok-g.ensures.low in
     record {
       p_value = c.requires.p_value;
       whole =
-          (c.requires.whole.0, subst (λ (s : Seg). ZonesLow c.args.p 0 s) (sym c.row-segment.ensures) (nu.zones_low g l (c.fewest-g.ensures.taken l)));
+          (c.requires.whole.0, subst (λ (s : Seg). ZonesLow c.args.p 0 s) (sym c.row-segment.ensures) (nu.zones_low g l (c.in_ok-g.ensures.least.taken l)));
       addresses_len = c.requires.addresses_len;
     }
 
-pub returns-then-seen-n : goal.returns-then-seen-n
-returns-then-seen-n c = record { zone_lt_z = (λ t. absurd (not_both false t refl)); by_index = λ off sh t. absurd (not_both false t refl) }
-
-pub is_fewest-sure-requires : goal.is_fewest-sure-requires
-is_fewest-sure-requires c =
+pub is_fewest-requires : goal.is_fewest-requires
+is_fewest-requires c =
     let p = c.args.p in
     let r = ranged p c.requires.p_value in
     let nu = c.requires.whole.1 in
-    let low = c.count_entries-beyond.ensures.taken_counted_2.low c.fewest-g.result (omega (arith, c.if-p-g.false, r.zones_high)) in
+    let low = c.count_entries-beyond.ensures.taken_counted_2.low c.in_ok-g.g (omega (arith, c.in_ok-g.ensures.low, r.zones_high)) in
     record {
       p_value = c.requires.p_value;
       image_len = (c.requires.whole.0.image_long, c.requires.addresses_len.0, omega (arith, low, addresses_all p r));
@@ -136,22 +120,18 @@ is_fewest-sure-requires c =
     }
 
 pub returns : goal.returns
-returns c =
+returns c off sh =
     let a = c.args in
     let p = a.p in
     let tb = a.addresses.now in
     let st = state_of a.bytes.now in
-    let v : List ℕ → View = λ off. view_of p off a.image.now a.pointers.now in
+    let v = view_of p off a.image.now a.pointers.now in
     let n = c.count_entries-beyond in
-    let used = n.new.used in
-    let g = c.fewest-g.result in
-    let le = c.fewest-g.ensures in
+    let g = c.in_ok-g.g in
+    let le = c.in_ok-g.ensures.least in
+    let h = c.in_ok-g.ensures.low in
     let s = c.see_segment-seen.result in
-    let h : g < p.Z = omega (arith, c.if-p-g.false) in
-    let t : Told = record { sure = c.is_fewest-sure.result; zone = g; live = get_or used g 0; first = s.first; outside = not (eqb (n.result + get_or used 1024 0) 0) } in record {
-      zone_lt_z = (λ _. h);
-      by_index = λ off sh sure.
-          let w = subst (λ (x : Seg). Vouched p (v off) st x tb (p.N * p.Z * capacity p) s) c.row-segment.ensures (c.see_segment-seen.ensures off) in
-          looked_seen p (ranged p c.requires.p_value) (v off) tb a.rows.now a.segments.now a.sealed.now sh st g h (le.taken h) used n.ensures.taken_counted_2 le s w c.if-seen-n.false
-          (c.is_fewest-sure.ensures sure) (chosen_of a.rows.now t) refl refl refl refl refl (told_outside (goal.at.returns c).After-count_entries-beyond off sh);
-    }
+    let w = subst (λ (x : Seg). Vouched p v st x tb (p.N * p.Z * capacity p) s) c.row-segment.ensures (c.see_segment-seen.ensures off) in
+    looked_seen p (ranged p c.requires.p_value) v tb a.rows.now a.segments.now a.sealed.now sh st g h (le.taken h) n.new.used n.ensures.taken_counted_2 le s w c.if-seen-n.false
+    (c.is_fewest.ensures c.if-not-is_fewest.false) _ refl c.row-segment.ensures refl refl refl
+    (told_outside (goal.at.returns c).After-count_entries-beyond off sh)

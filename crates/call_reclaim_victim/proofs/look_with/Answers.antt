@@ -34,28 +34,27 @@ count_windows-outside-requires c =
           (c.requires.whole.1.owners, none_live a.p a.segments.now a.addresses.now (replicate 1025 0) (λ g l. get_or-replicate 1025 g 0 0 (omega (arith, l))));
     }
 
-pub fewest-g-requires : goal.fewest-g-requires
-fewest-g-requires c =
+pub fewest-requires : goal.fewest-requires
+fewest-requires c =
     let a = c.args in
     let n : length {A = ℕ} (replicate 1025 0) ≡ 1025 = length-replicate {A = ℕ} 1025 0 in
     (c.requires.whole.1.sealed_long, subst (λ (x : ℕ). a.p.Z ≤ x) (sym (c.count_windows-outside.auto.live ∙ n)) (omega (arith, (ranged a.p c.requires.p_value).zones_high)))
 
-pub returns-then-p-g : goal.returns-then-p-g
-returns-then-p-g c =
+pub returns-in_default : goal.returns-in_default
+returns-in_default c =
     let a = c.args in
     let p = a.p in
     let tb = a.addresses.now in
     let w = c.count_windows-outside in
-    let f = c.fewest-g in
     let e = c.nobody.ensures in
     let v : List ℕ → View = λ off. view_of p off a.image.now a.pointers.now in
-    λ off sh. looked_none p (v off) tb (state_of a.bytes.now) f.result
-    (least_taken p (ranged p c.requires.p_value) (v off) tb a.rows.now a.segments.now a.sealed.now sh w.new.live w.ensures.live_counted f.result f.ensures)
-    c.if-p-g.true c.nobody.result (omega (arith, e.0)) e.1 e.2 e.3
+    λ off sh. looked_none p (v off) tb (state_of a.bytes.now) p.Z
+    (least_taken p (ranged p c.requires.p_value) (v off) tb a.rows.now a.segments.now a.sealed.now sh w.new.live w.ensures.live_counted p.Z c.in_default.ensures.least)
+    (omega arith) c.nobody.result (omega (arith, e.0)) e.1 e.2 e.3
 
 pub row-segment-requires : goal.row-segment-requires
 row-segment-requires c =
-    let l = c.if-p-g.false in
+    let l = c.in-Some.ensures.low in
     (omega (arith, l, c.requires.whole.1.rows_long), omega (arith, l, (ranged c.args.p c.requires.p_value).zones_high))
 
 pub idle_of-idle-requires : goal.idle_of-idle-requires
@@ -63,10 +62,9 @@ idle_of-idle-requires c =
     let a = c.args in
     let nu = c.requires.whole.1 in
     let w = c.count_windows-outside in
-    let f = c.fewest-g in
-    let g = f.result in
-    let l : g < a.p.Z = omega (arith, c.if-p-g.false) in
-    let is = f.ensures.taken l in
+    let g = c.in-Some.g in
+    let l : g < a.p.Z = c.in-Some.ensures.low in
+    let is = c.in-Some.ensures.least.taken l in
     let e = sym c.row-segment.ensures in
     let h = c.requires.addresses_len in
     let k = w.auto.marks in record {
@@ -84,11 +82,11 @@ idle_of-idle-requires c =
 
 pub offset_bounds-live-g : goal.offset_bounds-live-g
 offset_bounds-live-g c =
-    omega (arith, c.if-p-g.false, (ranged c.args.p c.requires.p_value).zones_high)
+    omega (arith, c.in-Some.ensures.low, (ranged c.args.p c.requires.p_value).zones_high)
 
 pub bounds-live-g : goal.bounds-live-g
 bounds-live-g c =
-    omega (arith, c.if-p-g.false, (ranged c.args.p c.requires.p_value).zones_high)
+    omega (arith, c.in-Some.ensures.low, (ranged c.args.p c.requires.p_value).zones_high)
 
 pub overflow_add-result : goal.overflow_add-result
 overflow_add-result c =
@@ -113,10 +111,10 @@ returns c =
     let w = c.count_windows-outside in
     let live = w.new.live in
     let so = w.ensures.live_counted in
-    let g = c.fewest-g.result in
-    let le = c.fewest-g.ensures in
+    let g = c.in-Some.g in
+    let le = c.in-Some.ensures.least in
     let i = c.idle_of-idle.result in
-    let h : g < p.Z = omega (arith, c.if-p-g.false) in
+    let h : g < p.Z = omega (arith, c.in-Some.ensures.low) in
     let is = le.taken h in
     let all! = p.N * p.Z * capacity p in
     let lost = so 1024 (omega arith) in

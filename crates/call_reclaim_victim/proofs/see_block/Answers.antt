@@ -1,6 +1,7 @@
 -- `see_block`: a place that the table has is live and not odd (`data_live`, `data_even`), so one more (`vouched_step`); any other is skipped. Assumes nothing.
 -- the zone is one of the drive's
 use Rattle.spec.specs.Memory.{state_of}
+use Rattle.std.specs.Prelude.{None}
 use Prim.Native.Nat.{ℕ, ◌+◌, ◌<◌}
 use Rattle.call_reclaim_live.specs.Live.{places_high}
 use Rattle.spec.specs.Drives.{View, view_of, zone_on}
@@ -72,7 +73,7 @@ returns-then-there-q c =
 
 pub next_idle-first-requires : goal.next_idle-first-requires
 next_idle-first-requires c =
-    let start = c.before.before.before.before.before.before.before.before.before.before.before.before.before in
+    let start = c.before.before.before.before.before.before.before.before.before.before.before.before in
     let a = c.args in
     let p = a.p in
     let r = ranged p c.requires.p_value in
@@ -92,7 +93,7 @@ overflow_add-result c = omega (arith, c.requires.addresses_len.5)
 
 pub returns : goal.returns
 returns c =
-    let start = c.before.before.before.before.before.before.before.before.before.before.before.before.before.before.before in
+    let start = c.before.before.before.before.before.before.before.before.before.before.before.before.before.before in
     let a = c.args in
     let p = a.p in
     let tb = a.addresses.now in
@@ -104,9 +105,8 @@ returns c =
     let live = data_live p r a.segment a.drive a.o q h.1 (zone_there start) h.4 (place_there start) tb c.clipped-a.result c.clipped-a.ensures
     (sym c.place_at-there.ensures ∙ c.if-there-q.false) in
     let even = data_even p r a.segment a.drive a.o q h.1 (zone_there start) h.4 (place_there start) in
-    let s : Idle = record { first = c.next_idle-first.result; odd = 1024 } in
-    let low : q < 4294967295 = omega (arith, in_image start) in record {
+    let s : Idle = record { first = c.next_idle-first.result; odd = None } in record {
       live_bound = omega arith;
-      by_index = λ off. vouched_step p (v off) st a.segment tb q a.seen (record { live = a.seen.live + 1; first = s.first }) s live even low
+      by_index = λ off. vouched_step p (v off) st a.segment tb q a.seen (record { live = a.seen.live + 1; first = s.first }) s live even
           (step-seen p (v off) st a.segment q a.seen s even refl (c.next_idle-first.ensures off)) refl refl;
     }

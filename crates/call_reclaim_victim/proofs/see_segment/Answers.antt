@@ -1,6 +1,7 @@
 -- `see_segment`: what is found vouches for the drives below d, with at most 65535 * d; a turn skips to its zone, sees it and skips on. Assumes nothing.
 -- all drives before d are seen
 use Rattle.spec.specs.Memory.{state_of}
+use Rattle.std.specs.Prelude.{None}
 use Prim.Native.Nat.{ℕ, ◌+◌}
 use Rattle.spec.specs.Drives.{View, view_of, zone_on}
 use Rattle.spec.specs.Params.{place_of}
@@ -10,7 +11,7 @@ use Rattle.call_reclaim_victim.specs.Vouched.{Vouched, vouched_none, vouched_ski
 use Rattle.call_reclaim_victim.specs.declared.Seen.{Seen}
 use Rattle.call_reclaim_records.specs.Vouch.{drive_first, drive_last, drive_place_low, next_drive_place}
 use mathlib.Core.List.{List}
-use mathlib.Core.Path.{◌≡◌, refl, sym, ap, ◌∙◌, subst}
+use mathlib.Core.Path.{◌≡◌, sym, ap, ◌∙◌, subst}
 use native.Mathlib.Omega.{arith}
 use Rattle.call_reclaim_victim.proofs.see_segment.Goals as goal
 
@@ -19,23 +20,16 @@ loop-d-init c =
     let a = c.args in
     let v : List ℕ → View = λ off. view_of a.p off a.image.now a.pointers.now in
     let st = state_of a.bytes.now in
-    let s : Seen = record { live = 0; first = record { 0 = 4294967295 } } in (
+    let s : Seen = record { live = 0; first = None } in (
       omega arith,
       omega arith,
       λ off. subst (λ (x : ℕ). Vouched a.p (v off) st a.segment a.addresses.now x s) (sym (drive_first a.p))
-          (vouched_none a.p (v off) st a.segment a.addresses.now s refl refl),
+          (vouched_none a.p (v off) st a.segment a.addresses.now),
     )
 
 pub see_zone-found-requires : goal.see_zone-found-requires
 see_zone-found-requires c =
     let h = c.requires.addresses_len in record { p_value = c.requires.p_value; whole = c.requires.whole; addresses_len = (h.0, c.loop-d-test.true, c.loop-d.invariant.1, h.1) }
-
-pub overflow_add-d : goal.overflow_add-d
-overflow_add-d c =
-    omega (arith, c.loop-d-test.true, (ranged c.args.p c.requires.p_value).drives_high)
-
-pub loop-d-smaller : goal.loop-d-smaller
-loop-d-smaller c = omega (arith, c.loop-d-test.true)
 
 pub loop-d-preserved : goal.loop-d-preserved
 loop-d-preserved c =

@@ -44,13 +44,6 @@ see_block-found-requires c =
           (h.0, h.1, c.zone_on-zone.ensures, c.place_of-at.ensures.0, c.loop-o-test.true, omega (arith, i.1, i.0, h.2, h.1, r.drives_high, r.stripes_high), h.3);
     }
 
-pub overflow_add-o : goal.overflow_add-o
-overflow_add-o c =
-    omega (arith, c.loop-o-test.true, (ranged c.args.p c.requires.p_value).stripes_high)
-
-pub loop-o-smaller : goal.loop-o-smaller
-loop-o-smaller c = omega (arith, c.loop-o-test.true)
-
 pub loop-o-preserved : goal.loop-o-preserved
 loop-o-preserved c =
     let a = c.args in

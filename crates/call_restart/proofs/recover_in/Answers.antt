@@ -1,6 +1,9 @@
 -- `recover_in`: refused, cut or done: the laws of the three ends (Ends) say what is left, by what gather, settle and load say; behind the stores the segments are gathered again. Assumes nothing.
-use Rattle.mem_calls.specs.Left.{checked}
-use Rattle.spec.specs.Drives.{Disk, mk_disk}
+use Rattle.mem_calls.specs.Left.{answer_of}
+use Rattle.spec.specs.Calls.{mk_after}
+use Rattle.spec.specs.declared.Answer.{Answer}
+use mathlib.Core.List.{[]}
+use Rattle.spec.specs.Drives.{mk_disk}
 use Rattle.spec.specs.Memory.{mk_memory}
 use Rattle.call_restart.specs.Ends.{ends_restart_refused, ends_restart_cut, ends_restart_done}
 use mathlib.Core.Path.{ap, ◌∙◌}
@@ -9,62 +12,39 @@ use Rattle.call_restart.proofs.recover_in.Goals as goal
 pub gather-requires : goal.gather-requires
 gather-requires c =
     let q = c.requires in
-    let s = q.z_in_bounds in record { p_value = q.p_value; whole = q.whole; z_in_bounds = (s.0, s.1, s.2, s.3) }
+    let s = q.z_in_bounds in record { here = q.whole.2; z_in_bounds = (s.0, s.1, s.2, s.3) }
 
-pub settle-t-requires : goal.settle-t-requires
-settle-t-requires c =
+pub settle-requires : goal.settle-requires
+settle-requires c =
     let q = c.requires in
     let g = c.gather.ensures in record { p_value = q.p_value; whole = q.whole; gone_value = q.gone_value; keeps = (g.keeps, g.flags_rows); serials = (g.serials, q.z_in_bounds.4) }
 
-pub returns-in-Fail : goal.returns-in-Fail
-returns-in-Fail c =
+pub returns-in-Err-Check : goal.returns-in-Err-Check
+returns-in-Err-Check c = λ fl.
     let a = c.args in
-    let t = c.settle-t in
-    let k : Disk = mk_disk a.image.now a.pointers.now in
-    let k' : Disk = mk_disk t.new.image t.new.pointers in
-    λ fl. ends_restart_refused a.p a.offline.now k (mk_memory a.state a.addresses.now a.compact.now fl) a.gone a.count
-    t.result k' t.ensures c.in-Fail.answer c.in-Fail.is
+    let t = c.settle.new in
+    let k = mk_disk a.image.now a.pointers.now in
+    let k' = mk_disk t.image t.pointers in
+    let m = mk_memory a.state a.addresses.now a.compact.now fl in
+    ap (λ (x : Answer). mk_after x k' m []) (c.from.ensures ∙ ap answer_of c.in-Err-Check.why-is)
+    ∙ ends_restart_refused a.p a.offline.now k m a.gone a.count k' c.in-Err-Check.why (rw c.in-Err-Check.field-0-is at c.in-Err-Check.ensures)
 
-pub shape_of-rows-then-t : goal.shape_of-rows-then-t
-shape_of-rows-then-t c =
-    c.gather.auto.rows
-
-pub shape_of-serials-then-t : goal.shape_of-serials-then-t
-shape_of-serials-then-t c =
-    c.gather.auto.serials
-
-pub shape_of-flags-then-t : goal.shape_of-flags-then-t
-shape_of-flags-then-t c =
-    c.gather.auto.left
-
-pub shape_of-kept-then-t : goal.shape_of-kept-then-t
-shape_of-kept-then-t c =
-    c.gather.auto.kept
-
-pub returns-then-t : goal.returns-then-t
-returns-then-t c =
+pub returns-in-Err-Count : goal.returns-in-Err-Count
+returns-in-Err-Count c = λ fl.
     let a = c.args in
     let q = c.requires in
-    let t = c.settle-t in
+    let t = c.settle.new in
     let x = c.cut in
-    let k : Disk = mk_disk a.image.now a.pointers.now in
-    let k' : Disk = mk_disk t.new.image t.new.pointers in
-    λ fl. ends_restart_cut a.p a.offline.now k (mk_memory a.state a.addresses.now a.compact.now fl) a.gone a.count
-    t.result k' t.ensures c.in_default.is
-    c.if-t.true x.result x.new.addresses x.new.compact
+    ends_restart_cut a.p a.offline.now (mk_disk a.image.now a.pointers.now) (mk_memory a.state a.addresses.now a.compact.now fl) a.gone a.count (mk_disk t.image t.pointers)
+    (rw c.in-Err-Count.field-0-is at c.in-Err-Count.ensures) x.result x.new.addresses x.new.compact
     q.addresses_len.0 q.addresses_len.1 x.ensures.answer_value.0 x.ensures.answer_value.1 x.ensures.addresses_after.0 x.ensures.addresses_after.1
 
 pub gather-requires-2 : goal.gather-requires-2
 gather-requires-2 c =
     let q = c.requires in
     let g = c.gather.ensures in
-    let t = c.settle-t.ensures in record {
-      p_value = q.p_value;
-      whole = (
-        t.whole_is (ap checked c.in_default.is) c.if-t.false,
-        q.whole.1,
-        q.whole.2,
-      );
+    record {
+      here = q.whole.2;
       z_in_bounds = (g.flags_rows.0, g.serials.0, g.left_flags.0, g.keeps.0);
     }
 
@@ -72,23 +52,21 @@ pub load-next-requires : goal.load-next-requires
 load-next-requires c =
     let q = c.requires in
     let g = c.gather-2.ensures in
-    let t = c.settle-t.ensures in
-    let o = ap checked c.in_default.is in
-    let l = c.if-t.false in record {
+    let t = c.in-Ok.ensures in record {
       p_value = q.p_value;
-      whole = t.whole_is o l;
+      whole = t.whole_is;
       addresses_len = q.addresses_len;
       loading =
-          record { here = q.whole.2; apart = t.apart_is o l; clean = t.good o l; rows_are = g.flags_rows; serials_are = g.serials; kept_are = g.keeps };
+          record { here = q.whole.2; apart = t.apart_is; clean = t.good; rows_are = g.flags_rows; serials_are = g.serials; kept_are = g.keeps };
     }
 
 pub shape_of-image : goal.shape_of-image
 shape_of-image c =
-    c.settle-t.auto.image
+    c.settle.auto.image
 
 pub shape_of-pointers : goal.shape_of-pointers
 shape_of-pointers c =
-    c.settle-t.auto.pointers
+    c.settle.auto.pointers
 
 pub shape_of-rows : goal.shape_of-rows
 shape_of-rows c =
@@ -108,15 +86,12 @@ shape_of-kept c =
 
 pub shape_of-marks : goal.shape_of-marks
 shape_of-marks c =
-    c.settle-t.auto.marks
+    c.settle.auto.marks
 
 pub returns : goal.returns
-returns c =
+returns c = λ fl.
     let a = c.args in
-    let t = c.settle-t in
+    let t = c.settle in
     let x = c.load-next in
-    let k : Disk = mk_disk a.image.now a.pointers.now in
-    let k' : Disk = mk_disk t.new.image t.new.pointers in
-    λ fl. ends_restart_done a.p a.offline.now k (mk_memory a.state a.addresses.now a.compact.now fl) a.gone a.count
-    t.result k' t.ensures c.in_default.is
-    c.if-t.false x.result x.new.addresses x.new.compact x.ensures
+    ends_restart_done a.p a.offline.now (mk_disk a.image.now a.pointers.now) (mk_memory a.state a.addresses.now a.compact.now fl) a.gone a.count (mk_disk t.new.image t.new.pointers)
+    _ c.in-Ok.ensures x.result x.new.addresses x.new.compact x.ensures

@@ -3,7 +3,6 @@ use Rattle.spec.specs.Drives.{view_of}
 use Rattle.spec.specs.Segments.{segments}
 use Rattle.recover_check.specs.Mends.{no_faults}
 use Rattle.call_restart.specs.Order.{segments-fail, zone_none, gone_plain, here_plain, plain_pass, restart_serial_fails, restart_zones_fail, restart_zones_suffice}
-use borrow.Author.Tests.{not-true, not-false}
 use mathlib.Core.Path.{sym, ◌∙◌}
 use native.Mathlib.Omega.{arith}
 use Rattle.call_restart.proofs.rest_checks.Goals as goal
@@ -32,7 +31,7 @@ returns-then-not-is_ragged c =
     let v = view_of a.p a.offline.now im ps in
     let z = zone_none a.p v a.gone a.e x (omega (arith, if1.false)) in
     plain_pass a.p v a.gone (segments a.p v a.gone) (no_faults a.p v a.gone a.e x z)
-    (here_plain a.p v a.gone a.e x z if2.false ∙ sym rag.ensures ∙ not-true rag.result c.if-not-is_ragged.true-raw)
+    (here_plain a.p v a.gone a.e x z if2.false ∙ sym rag.ensures ∙ c.if-not-is_ragged.true)
 
 pub returns-then-most : goal.returns-then-most
 returns-then-most c =
@@ -46,7 +45,7 @@ returns-then-most c =
     let v = view_of a.p a.offline.now im ps in
     let z = zone_none a.p v a.gone a.e x (omega (arith, if1.false)) in
     restart_serial_fails a.p v a.gone (segments a.p v a.gone) (no_faults a.p v a.gone a.e x z)
-    (here_plain a.p v a.gone a.e x z if2.false ∙ sym rag.ensures ∙ not-false rag.result if3.false-raw)
+    (here_plain a.p v a.gone a.e x z if2.false ∙ sym rag.ensures ∙ if3.false)
     (sym (most.ensures v a.gone x.here kp sr) ∙ c.if-most.true)
 
 pub returns-then-none_free : goal.returns-then-none_free
@@ -62,7 +61,7 @@ returns-then-none_free c =
     let v = view_of a.p a.offline.now im ps in
     let z = zone_none a.p v a.gone a.e x (omega (arith, if1.false)) in
     restart_zones_fail a.p v a.gone (segments a.p v a.gone) (no_faults a.p v a.gone a.e x z)
-    (here_plain a.p v a.gone a.e x z if2.false ∙ sym rag.ensures ∙ not-false rag.result if3.false-raw)
+    (here_plain a.p v a.gone a.e x z if2.false ∙ sym rag.ensures ∙ if3.false)
     (λ q. if4.false (most.ensures v a.gone x.here kp sr ∙ q)) (sym (c.none_free.ensures im ps a.gone tk) ∙ c.if-none_free.true)
 
 pub returns : goal.returns
@@ -78,5 +77,5 @@ returns c =
     let v = view_of a.p a.offline.now im ps in
     let z = zone_none a.p v a.gone a.e x (omega (arith, if1.false)) in
     restart_zones_suffice a.p v a.gone (segments a.p v a.gone) (no_faults a.p v a.gone a.e x z)
-    (here_plain a.p v a.gone a.e x z if2.false ∙ sym rag.ensures ∙ not-false rag.result if3.false-raw)
+    (here_plain a.p v a.gone a.e x z if2.false ∙ sym rag.ensures ∙ if3.false)
     (λ q. if4.false (most.ensures v a.gone x.here kp sr ∙ q)) (sym (c.none_free.ensures im ps a.gone tk) ∙ c.if-none_free.false)

@@ -4,6 +4,7 @@ use Rattle.mem_calls.specs.Left.{checked}
 use Rattle.spec.specs.Drives.{Disk, View, mk_disk}
 use Rattle.spec.specs.Engine.{lent_ok_of}
 use Rattle.spec.specs.Faults.{pointer_faults}
+use Rattle.spec.specs.Lists.Opt.{some}
 use Rattle.spec.specs.Memory.{Memory, mk_memory}
 use Rattle.spec.specs.Params.{named}
 use Rattle.spec.specs.Segments.{segments}
@@ -17,12 +18,9 @@ use mathlib.Core.Path.{◌≡◌, sym, ap, ◌∙◌, subst}
 use Rattle.law_drives.specs.Masks.{only-named}
 use Rattle.call_restart.proofs.restart.Goals as goal
 
-pub returns-in-Fail : goal.returns-in-Fail
-returns-in-Fail c =
-    let a = c.args in
-    let k : Disk = mk_disk a.image.now a.pointers.now in
-    let m : Memory = mk_memory a.state a.addresses.now a.compact.now a.inflight.now in
-    restart_refused a.p a.offline.now k m a.missing a.count c.in-Fail.answer (sym (c.checks-c.ensures a.state) ∙ ap checked c.in-Fail.is)
+pub returns-in-Err : goal.returns-in-Err
+returns-in-Err c =
+    restart_refused _ _ _ _ c.args.missing c.args.count c.from.result (sym (c.checks.ensures c.args.state) ∙ ap checked c.in-Err.is ∙ ap some (sym c.from.ensures))
 
 pub recover-requires : goal.recover-requires
 recover-requires c =
@@ -32,7 +30,7 @@ recover-requires c =
     let m : Memory = mk_memory a.state a.addresses.now a.compact.now a.inflight.now in
     let v : View = seen p a.offline.now k in
     let f = restart_front_passed p (lent_ok_of p a.offline.now k m) v a.missing (segments p v (named a.missing))
-    (sym (c.checks-c.ensures a.state) ∙ ap checked c.in_default.is) in
+    (sym (c.in_default.ensures a.state)) in
     let l = lengths_of p a.offline.now k m f.lent in
     let g = c.only_drive-gone.ensures ∙ only-named a.missing in
     record {
@@ -52,7 +50,7 @@ returns c =
     let m : Memory = mk_memory a.state a.addresses.now a.compact.now a.inflight.now in
     let v : View = seen p a.offline.now k in
     let f = restart_front_passed p (lent_ok_of p a.offline.now k m) v a.missing (segments p v (named a.missing))
-    (sym (c.checks-c.ensures a.state) ∙ ap checked c.in_default.is) in
+    (sym (c.in_default.ensures a.state)) in
     c.recover.ensures a.inflight.now
     ∙ ap (λ (g : ℕ). recovered p a.offline.now k m g a.count)
     (c.only_drive-gone.ensures ∙ only-named a.missing)

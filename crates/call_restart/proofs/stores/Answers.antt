@@ -10,9 +10,9 @@ use Rattle.disk_gather.specs.Flags.{Keeps, FlagsRows, Serials}
 use Rattle.call_restart.specs.Ends.{missing_stores}
 use Rattle.law_views.specs.Views.{seen}
 use Rattle.disk_zones.specs.Made.{Storing, storing_none}
-use mathlib.Core.Bool.{false}
 use mathlib.Core.List.{List}
 use mathlib.Core.Path.{sym, ◌∙◌, subst}
+use Rattle.std.specs.Prelude.{Ok}
 use Rattle.call_restart.proofs.stores.Goals as goal
 
 pub returns-then-gone-ne0 : goal.returns-then-gone-ne0
@@ -20,7 +20,7 @@ returns-then-gone-ne0 c =
     let a = c.args in
     let k : Disk = mk_disk a.image.now a.pointers.now in
     let v : View = seen a.p a.offline.now k in
-    subst (λ (l : List Store). Storing a.p a.count l k (record { left = a.count; cut = false }) k)
+    subst (λ (l : List Store). Storing a.p a.count l k (Ok a.count) k)
     (sym (missing_stores a.p v a.gone (segments a.p v a.gone) c.if-gone-ne0.true)) (storing_none a.p a.count k)
 
 pub healthy_stores-requires : goal.healthy_stores-requires

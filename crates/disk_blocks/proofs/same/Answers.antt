@@ -11,17 +11,8 @@ returns-then-a-b c = sym (same_list_long c.args.a.now c.args.b.now c.if-a-b.true
 pub loop-i-init : goal.loop-i-init
 loop-i-init c = record { upto = omega arith; long = c.if-a-b.false; equal = λ e. refl; differ = λ n. absurd (n refl) }
 
-pub bounds-a-i : goal.bounds-a-i
-bounds-a-i c = omega arith
-
 pub bounds-b-i : goal.bounds-b-i
 bounds-b-i c = omega (arith, c.loop-i-test.true, c.loop-i.invariant.long)
-
-pub overflow_add-i : goal.overflow_add-i
-overflow_add-i c = omega arith
-
-pub loop-i-smaller : goal.loop-i-smaller
-loop-i-smaller c = omega arith
 
 pub loop-i-preserved : goal.loop-i-preserved
 loop-i-preserved c =

@@ -1,5 +1,5 @@
 -- `xor_part`: the first i bytes from at are exclusive-ored and those ahead are as they came; a piece adds 64 bytes, the last call the rest. Assumes nothing.
-use mathlib.Core.Path.{◌≡◌, refl, sym, ap, ◌∙◌}
+use mathlib.Core.Path.{◌≡◌, sym, ap, ◌∙◌}
 use mathlib.Core.List.{List}
 use Prim.Native.Nat.{ℕ, ◌+◌, ◌-◌}
 use native.Mathlib.Omega.{arith}
@@ -14,22 +14,7 @@ pub loop-i-init : goal.loop-i-init
 unfolding xors part
 loop-i-init c =
     let args = c.args in
-    (omega arith, refl, sym (splice-nil args.dst.now args.at))
-
-pub overflow_sub-src : goal.overflow_sub-src
-overflow_sub-src c = omega arith
-
-pub overflow_add-at : goal.overflow_add-at
-overflow_add-at c = omega arith
-
-pub xor_piece-requires : goal.xor_piece-requires
-xor_piece-requires c = omega arith
-
-pub overflow_add-i : goal.overflow_add-i
-overflow_add-i c = omega arith
-
-pub loop-i-smaller : goal.loop-i-smaller
-loop-i-smaller c = omega arith
+    (omega arith, sym (splice-nil args.dst.now args.at))
 
 pub loop-i-preserved : goal.loop-i-preserved
 loop-i-preserved c =
@@ -39,24 +24,10 @@ loop-i-preserved c =
     let d = a.dst.now in
     let m = a.src.now in (
       omega arith,
-      q.auto.dst
-          ∙ l.invariant.1,
       q.ensures
-          ∙ piece_more d l.dst m a.at 0 l.i 64 l.invariant.2 (omega arith) (part (a.at + l.i) 64 l.dst) (part l.i 64 m) (omega arith)
-          (still_ahead d l.dst m a.at 0 l.i 64 l.invariant.2 (omega arith)) (ap (λ (k : ℕ). part k 64 m) (sym (zero-add l.i))),
+          ∙ piece_more d l.dst m a.at 0 l.i 64 l.invariant.1 (omega arith) (part (a.at + l.i) 64 l.dst) (part l.i 64 m) (omega arith)
+          (still_ahead d l.dst m a.at 0 l.i 64 l.invariant.1 (omega arith)) (ap (λ (k : ℕ). part k 64 m) (sym (zero-add l.i))),
     )
-
-pub overflow_add-at-2 : goal.overflow_add-at-2
-overflow_add-at-2 c = omega arith
-
-pub slice_bounds-xor_bytes-count : goal.slice_bounds-xor_bytes-count
-slice_bounds-xor_bytes-count c = omega arith
-
-pub slice_bounds-xor_bytes-start : goal.slice_bounds-xor_bytes-start
-slice_bounds-xor_bytes-start c = omega arith
-
-pub slice_bounds-xor_bytes-end : goal.slice_bounds-xor_bytes-end
-slice_bounds-xor_bytes-end c = omega arith
 
 pub xor_bytes-requires : goal.xor_bytes-requires
 unfolding part
@@ -66,11 +37,6 @@ xor_bytes-requires c =
     let m = args.src.now in
     let n : length (part i (length m - i) m) ≡ length m - i = length_part i (length m - i) m (omega arith) in
     omega arith
-
-pub shape_of-dst : goal.shape_of-dst
-shape_of-dst c =
-    let loop = c.loop-i in
-    c.xor_bytes.auto.dst ∙ loop.invariant.1
 
 pub returns : goal.returns
 unfolding part
@@ -83,7 +49,7 @@ returns c =
     let e : l.i + n ≡ length m = omega arith in
     let s = part l.i n m in
     c.xor_bytes.ensures ∙ ap (λ (k : ℕ). splice l.dst (a.at + l.i) (xors (part (a.at + l.i) k l.dst) s)) (length_part l.i n m (omega arith))
-    ∙ piece_more d l.dst m a.at 0 l.i n l.invariant.2 (omega arith) (part (a.at + l.i) n l.dst) s (omega arith)
-    (still_ahead d l.dst m a.at 0 l.i n l.invariant.2 (omega arith)) (ap (λ (k : ℕ). part k n m) (sym (zero-add l.i)))
+    ∙ piece_more d l.dst m a.at 0 l.i n l.invariant.1 (omega arith) (part (a.at + l.i) n l.dst) s (omega arith)
+    (still_ahead d l.dst m a.at 0 l.i n l.invariant.1 (omega arith)) (ap (λ (k : ℕ). part k n m) (sym (zero-add l.i)))
     ∙ ap (λ (k : ℕ). splice d a.at (xors (part a.at k d) (part 0 k m))) e
     ∙ ap (λ (x : List ℕ). splice d a.at (xors (part a.at (length m) d) x)) (part-all (length m) m (omega arith))

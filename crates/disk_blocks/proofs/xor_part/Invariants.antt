@@ -6,7 +6,7 @@ use Rattle.spec.specs.Bytes.{part, splice, xors}
 use Rattle.disk_blocks.proofs.xor_part.Given as goal
 
 abbrev pub invariant-loop-i : goal.invariant-loop-i
-invariant-loop-i l = (l.i ≤ length l.src) × (length l.dst ≡ length l.initial.dst) × (l.dst ≡ splice l.initial.dst l.at (xors (part l.at l.i l.initial.dst) (part 0 l.i l.src)))
+invariant-loop-i l = (l.i ≤ length l.src) × (l.dst ≡ splice l.initial.dst l.at (xors (part l.at l.i l.initial.dst) (part 0 l.i l.src)))
 
 abbrev pub decreases-loop-i : goal.decreases-loop-i
 decreases-loop-i l = length l.src - l.i

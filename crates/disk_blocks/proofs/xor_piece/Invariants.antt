@@ -1,18 +1,8 @@
--- `xor_piece`: the first loop puts i exclusive-ored bytes into the array, the second puts j of the array into dst; both end at 64. Assumes nothing.
+-- `xor_piece`: the array holds i exclusive-ored bytes; at the end it holds 64, which replace those in dst. Assumes nothing.
 use mathlib.Core.Path.{◌≡◌}
-use Prim.Native.Nat.{◌-◌, ◌≤◌}
 use lib.ListN.{length, take}
-use Rattle.spec.specs.Bytes.{part, splice, xors}
+use Rattle.spec.specs.Bytes.{part, xors}
 use Rattle.disk_blocks.proofs.xor_piece.Given as goal
 
 abbrev pub invariant-loop-i : goal.invariant-loop-i
-invariant-loop-i l = (l.i ≤ 64) × (length l.held ≡ 64) × (take l.i l.held ≡ xors (part l.at l.i l.dst) (part l.from l.i l.src))
-
-abbrev pub decreases-loop-i : goal.decreases-loop-i
-decreases-loop-i l = 64 - l.i
-
-abbrev pub invariant-loop-j : goal.invariant-loop-j
-invariant-loop-j l = (l.j ≤ 64) × (length l.dst ≡ length l.initial.dst) × (l.dst ≡ splice l.initial.dst l.at (take l.j l.held))
-
-abbrev pub decreases-loop-j : goal.decreases-loop-j
-decreases-loop-j l = 64 - l.j
+invariant-loop-i l = (length l.held ≡ 64) × (take l.i l.held ≡ xors (part l.at l.i l.dst) (part l.from l.i l.src))

@@ -66,12 +66,6 @@ xor_within-requires c =
           (slots_differ p a.slot (parity_drive p a.stripe) (data_drive p a.stripe l.k) (λ q. data_not_parity p a.stripe l.k (sym q))),
     )
 
-pub overflow_add-k : goal.overflow_add-k
-overflow_add-k c = omega arith
-
-pub loop-k-smaller : goal.loop-k-smaller
-loop-k-smaller c = omega arith
-
 pub loop-k-preserved : goal.loop-k-preserved
 loop-k-preserved c =
     let a = c.args in

@@ -1,7 +1,6 @@
 -- `add_part`: a part that is left out adds nothing; else its bytes, which lie in the buffer, are exclusive-ored in. Assumes nothing.
 use mathlib.Core.Path.{◌≡◌, sym, ap, ◌∙◌}
 use mathlib.Core.Bool.{Bool, false, cond}
-use native.Mathlib.Omega.{arith}
 use lib.ListN.{length, get_or}
 use Rattle.spec.specs.Bytes.{part, xors}
 use Rattle.spec.specs.Lists.{is_in}
@@ -17,12 +16,6 @@ returns-then-has_drive c =
 
 here : (c : After-shared_slice_known-3-1) → is_in c.args.out c.args.k ≡ false
 here c = sym c.has_drive.ensures ∙ c.if-has_drive.false
-
-pub overflow_add-e : goal.overflow_add-e
-overflow_add-e c = omega (arith, c.requires.block_in_bounds (here (goal.at.overflow_add-e c).After-shared_slice_known-3-1))
-
-pub slice_bounds-xor_into-end : goal.slice_bounds-xor_into-end
-slice_bounds-xor_into-end c = omega (arith, c.requires.block_in_bounds (here (goal.at.slice_bounds-xor_into-end c).After-shared_slice_known-3-1))
 
 pub returns : goal.returns
 returns c =

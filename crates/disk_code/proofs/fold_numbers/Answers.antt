@@ -14,15 +14,6 @@ use Rattle.disk_code.proofs.fold_numbers.Goals as goal
 pub loop-k-init : goal.loop-k-init
 loop-k-init c = (omega arith, sym (numbers_none (λ i. get_or c.args.numbers.now i 0) c.args.out))
 
-pub add_number-sum-requires : goal.add_number-sum-requires
-add_number-sum-requires c = omega (arith, c.loop-k-test.true, c.requires)
-
-pub overflow_add-k : goal.overflow_add-k
-overflow_add-k c = omega (arith, c.loop-k-test.true)
-
-pub loop-k-smaller : goal.loop-k-smaller
-loop-k-smaller c = omega (arith, c.loop-k-test.true)
-
 pub loop-k-preserved : goal.loop-k-preserved
 loop-k-preserved c =
     let a = c.args in

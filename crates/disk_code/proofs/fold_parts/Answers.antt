@@ -25,12 +25,6 @@ add_part-requires c =
     let pre = c.requires in
     let l = c.loop-k in record { k_in_bounds = omega (arith, c.loop-k-test.true, pre.n_in_bounds.0); block_in_bounds = λ e. omega (arith, l.invariant.1, pre.parts_within l.k c.loop-k-test.true e) }
 
-pub overflow_add-k : goal.overflow_add-k
-overflow_add-k c = omega arith
-
-pub loop-k-smaller : goal.loop-k-smaller
-loop-k-smaller c = omega (arith, c.loop-k-test.true)
-
 pub loop-k-preserved : goal.loop-k-preserved
 loop-k-preserved c =
     let a = c.args in

@@ -48,12 +48,6 @@ clear_part-requires c =
     let t = loop-test.true in
     omega (arith, c.spare_byte-byte.ensures.1, l.invariant.long, spare_len_lem)
 
-pub overflow_add-i : goal.overflow_add-i
-overflow_add-i c = omega arith
-
-pub loop-i-smaller : goal.loop-i-smaller
-loop-i-smaller c = omega arith
-
 pub loop-i-preserved : goal.loop-i-preserved
 unfolding zero_spare
 loop-i-preserved c =

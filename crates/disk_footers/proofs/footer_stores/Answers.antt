@@ -4,7 +4,7 @@ use mathlib.Core.List.{List}
 use Prim.Native.Nat.{ℕ}
 use native.Mathlib.Omega.{arith}
 use Rattle.spec.specs.Drives.{Zone, Store, view_of, mk_disk, zone_at, store_disk, store_all}
-use Rattle.disk_zones.specs.Made.{made_of}
+use Rattle.disk_zones.specs.Made.{made_of, made_taken}
 use Rattle.disk_footers.specs.Laid.{feet_taken, feet_none, feet_count}
 use Rattle.disk_footers.proofs.footer_stores.Goals as goal
 
@@ -12,7 +12,7 @@ pub returns-then-m-eq0 : goal.returns-then-m-eq0
 unfolding made_of
 returns-then-m-eq0 c =
     let a = c.args in
-    let allowed = c.allowed-m in
+    let allowed = c.min-m in
     let pre = c.requires in
     let p = a.p in
     let k = mk_disk a.image.now a.pointers.now in
@@ -21,7 +21,7 @@ returns-then-m-eq0 c =
     let h = pre.drive_lt_n in
     let m = allowed.ensures in
     λ off. record {
-      made = c.made.ensures ∙ ap (made_of a.count) (sym (feet_count p a.drive a.zone (q off) a.first a.n));
+      made = c.ok_or-left.ensures.value ∙ made_taken c.checked_sub.result a.count a.n c.checked_sub.ensures ∙ ap (made_of a.count) (sym (feet_count p a.drive a.zone (q off) a.first a.n));
       disk = sym (feet_none p a.drive a.zone (q off) a.first a.n a.count k (sym m ∙ c.if-m-eq0.true));
     }
 
@@ -29,7 +29,7 @@ pub store_footers-requires : goal.store_footers-requires
 store_footers-requires c =
     let a = c.args in
     let if1 = c.if-m-eq0 in
-    let allowed = c.allowed-m in
+    let allowed = c.min-m in
     let pre = c.requires in
     let p = a.p in
     let k = mk_disk a.image.now a.pointers.now in
@@ -41,7 +41,7 @@ pub returns : goal.returns
 returns c =
     let a = c.args in
     let store-footers = c.store_footers in
-    let allowed = c.allowed-m in
+    let allowed = c.min-m in
     let pre = c.requires in
     let p = a.p in
     let k = mk_disk a.image.now a.pointers.now in
@@ -50,6 +50,6 @@ returns c =
     let h = pre.drive_lt_n in
     let m = allowed.ensures in
     λ off. record {
-      made = c.made-2.ensures ∙ ap (made_of a.count) (sym (feet_count p a.drive a.zone (q off) a.first a.n));
+      made = c.ok_or-left.ensures.value ∙ made_taken c.checked_sub.result a.count a.n c.checked_sub.ensures ∙ ap (made_of a.count) (sym (feet_count p a.drive a.zone (q off) a.first a.n));
       disk = store-footers.ensures off ∙ sym (ap (λ (x : List Store). store_all (store_disk p) x k) (feet_taken p a.drive a.zone (q off) a.first a.n a.count allowed.result m));
     }

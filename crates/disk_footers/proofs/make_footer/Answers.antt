@@ -199,27 +199,6 @@ overflow_add-at-in-loop-j c =
     let m : l.at + spare_len ≤ image_len p = omega (arith, l.invariant.2, w, u) in
     omega (arith, r.block_high, m, image_high p r, spare_len_lem)
 
-pub overflow_add-j : goal.overflow_add-j
-overflow_add-j c =
-    let a = c.args in
-    let loop-test = c.loop-j-test in
-    let l = c.loop-j in
-    let records-of = c.records_of-n in
-    let pre = c.requires in
-    let p = a.p in
-    let r = ranged p pre.p_value in
-    let h = pre.image_len in
-    let n = records-of.ensures in
-    let t = loop-test.true in
-    let o : a.i * per_footer p + l.j < p.S = omega (arith, n.1, t) in
-    let w = block_within p a.drive a.zone (1 + a.i * per_footer p + l.j) h.1 h.2 (data_below p r (1 + a.i * per_footer p + l.j) (omega arith)) in
-    let u : unit_len p ≡ p.B + spare_len = unit_is p in
-    let m : l.at + spare_len ≤ image_len p = omega (arith, l.invariant.2, w, u) in
-    omega (arith, n.2, t)
-
-pub loop-j-smaller : goal.loop-j-smaller
-loop-j-smaller c = omega arith
-
 pub loop-j-preserved : goal.loop-j-preserved
 loop-j-preserved c =
     let a = c.args in

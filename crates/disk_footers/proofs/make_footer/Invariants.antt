@@ -1,7 +1,7 @@
 -- `make_footer`: after j turns the block holds the first j records of footer i, zeros behind them, and at is the spare of record j;
 -- one turn appends that spare; blocks lie one unit apart. At n the block is the footer. Assumes nothing.
 use mathlib.Core.Path.{◌≡◌}
-use Prim.Native.Nat.{◌+◌, ◌-◌, ◌*◌, ◌≤◌}
+use Prim.Native.Nat.{◌+◌, ◌*◌, ◌≤◌}
 use lib.ListN.{length, replicate}
 use Rattle.spec.specs.Bytes.{splice}
 use Rattle.spec.specs.Params.{per_footer, place_of, place_byte}
@@ -14,6 +14,3 @@ invariant-loop-j l =
     × (length l.block ≡ length l.initial.block)
     × (l.at ≡ place_byte l.p (place_of l.p l.drive l.zone (1 + l.i * per_footer l.p + l.j)) + l.p.B)
     × (l.block ≡ splice (replicate l.p.B 0) 0 (records_of l.p (spares_by l.p l.image l.drive l.zone) l.i l.j))
-
-abbrev pub decreases-loop-j : goal.decreases-loop-j
-decreases-loop-j l = l.n - l.j

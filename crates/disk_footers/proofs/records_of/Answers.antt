@@ -31,20 +31,6 @@ overflow_sub-rest c =
     let e : i * c.per_footer-per.result ≡ i * per_footer p = ap (λ (x : ℕ). i * x) k in
     omega (arith, e, s)
 
-pub returns-then-rest-per : goal.returns-then-rest-per
-returns-then-rest-per c =
-    let per-footer = c.per_footer-per in
-    let args = c.args in
-    let pre = c.requires in
-    let p = args.p in
-    let i = args.i in
-    let r = ranged p pre.p_value in
-    let h = pre.i_bound in
-    let k : per-footer.result ≡ per_footer p = per-footer.ensures.0 in
-    let s = footer_start p r i h in
-    let e : i * per-footer.result ≡ i * per_footer p = ap (λ (x : ℕ). i * x) k in
-    (omega (arith, e, k, s, c.if-rest-per.true), omega (arith, e, s), omega (arith, c.if-rest-per.true, per-footer.ensures.2))
-
 pub returns : goal.returns
 returns c =
     let per-footer = c.per_footer-per in
@@ -57,4 +43,4 @@ returns c =
     let k : per-footer.result ≡ per_footer p = per-footer.ensures.0 in
     let s = footer_start p r i h in
     let e : i * per-footer.result ≡ i * per_footer p = ap (λ (x : ℕ). i * x) k in
-    (omega (arith, e, k, s, c.if-rest-per.false), omega (arith, e, k, s, c.if-rest-per.false), per-footer.ensures.2)
+    (omega (arith, e, k, s, c.min.ensures), omega (arith, e, k, s, c.min.ensures), omega (arith, c.min.ensures, per-footer.ensures.2))

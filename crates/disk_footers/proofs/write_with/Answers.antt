@@ -77,12 +77,6 @@ copy_part-requires c =
     let t = loop-test.true in
     omega (arith, block_byte.ensures.1, l.invariant.1.long, make-footer.auto.block, l.invariant.0, h.1)
 
-pub overflow_add-i : goal.overflow_add-i
-overflow_add-i c = omega arith
-
-pub loop-i-smaller : goal.loop-i-smaller
-loop-i-smaller c = omega arith
-
 pub loop-i-preserved : goal.loop-i-preserved
 loop-i-preserved c =
     let a = c.args in

@@ -15,16 +15,6 @@ loop-g-init c =
     let a = c.args in
     (omega arith, refl, λ d z x y. c.requires.by_index (d * a.p.Z + z) (zone_index_lt a.p d z x y) ∙ sym (owner_none a.rows.now a.kept.now d z))
 
-pub own_kept-requires : goal.own_kept-requires
-own_kept-requires c =
-    let pre = c.requires.z_in_bounds in record { p_value = c.requires.p_value; z_in_bounds = (pre.0, pre.1, omega (arith, c.loop-g.invariant.1, pre.2), pre.3, c.loop-g-test.true) }
-
-pub overflow_add-g : goal.overflow_add-g
-overflow_add-g c = omega arith
-
-pub loop-g-smaller : goal.loop-g-smaller
-loop-g-smaller c = omega arith
-
 pub loop-g-preserved : goal.loop-g-preserved
 loop-g-preserved c =
     let a = c.args in
@@ -37,9 +27,6 @@ loop-g-preserved c =
           ∙ ap (cond (get_or a.kept.now l.g false && eqb z (zone_on (row_seg a.rows.now l.g) d)) l.g) (l.invariant.2 d z x y)
           ∙ sym (owner_more a.rows.now a.kept.now d z l.g)),
     )
-
-pub shape_of-owners : goal.shape_of-owners
-shape_of-owners c = c.loop-g.invariant.1
 
 pub returns : goal.returns
 returns c =

@@ -3,6 +3,7 @@ use mathlib.Core.Path.{◌≡◌, sym, ap, ◌∙◌}
 use mathlib.Core.Bool.{Bool, true, ◌&&◌}
 use Prim.Native.Nat.{ℕ, ◌*◌}
 use native.Mathlib.Omega.{arith}
+use borrow.Author.Rules.{rules}
 use borrow.Author.Tests.{eq-eqb, ne_eqb}
 use lib.Dec.{ltb}
 use Rattle.spec.specs.declared.Params.{Params}
@@ -23,69 +24,57 @@ seg_is : (p : Params) (v : View) (gone z s : ℕ) → s ≡ serial_in p v (low_d
 unfolding seg_at
 seg_is p v gone z s e = ap (seg_for p v gone) e
 
-pub lowest_on-requires : goal.lowest_on-requires
-lowest_on-requires c =
-    let q = c.requires in record { p_value = q.p_value; drive_lt_n = (q.here.1, q.image_len.1, q.image_len.2, q.image_len.3) }
-
 pub returns-then-lowest_on-z : goal.returns-then-lowest_on-z
 unfolding left_at
 returns-then-lowest_on-z c =
     let a = c.args in
-    let p = a.p in
+    let i = a.index.now in
+    let p = i.p in
     let h = c.requires.here in
-    let low = low_drive p a.gone in
+    let b = i.lowest.0 in
+    let low = low_drive p i.gone in
     let n = c.lowest_on in
-    let here = ap (is_in a.gone) h.2 ∙ h.0.1 in record {
+    let here = ap (is_in i.gone) b ∙ h.0.1 in record {
       by_index = (λ off ps long x e.
           let v = view_of p off a.image.now ps in
-          let no = lead_found p v low a.low a.z a.serial.0 n.result h.2 h.3 e (n.ensures.value v a.gone here x) ∙ ne_eqb n.result a.z c.if-lowest_on-z.true in
-          sym (and_false_left (leads p v low a.z) (all (λ d. ltb (zone_on (seg_at p v a.gone a.z) d) p.Z) (present p a.gone)) no));
+          let no = lead_found p v low i.low a.z a.serial.0 n.result b h.1 e (n.ensures.value v here x) ∙ ne_eqb n.result a.z c.if-lowest_on-z.true in
+          sym (and_false_left (leads p v low a.z) (all (λ d. ltb (zone_on (seg_at p v i.gone a.z) d) p.Z) (present p i.gone)) no));
       by_index_2 = (λ off ps long x e.
           let v = view_of p off a.image.now ps in
-          let no = lead_found p v low a.low a.z a.serial.0 n.result h.2 h.3 e (n.ensures.value v a.gone here x) ∙ ne_eqb n.result a.z c.if-lowest_on-z.true in
-          sym (cond_false (leads p v low a.z) (splice a.rows.now (8 * a.z) (seg_at p v a.gone a.z).zones) a.rows.now no));
+          let no = lead_found p v low i.low a.z a.serial.0 n.result b h.1 e (n.ensures.value v here x) ∙ ne_eqb n.result a.z c.if-lowest_on-z.true in
+          sym (cond_false (leads p v low a.z) (splice a.rows.now (8 * a.z) (seg_at p v i.gone a.z).zones) a.rows.now no));
     }
-
-pub seg_in-segment-requires : goal.seg_in-segment-requires
-seg_in-segment-requires c =
-    let q = c.requires in
-    let h = q.here in record { p_value = q.p_value; image_len = q.image_len; low_lt_n = (h.1, h.2, h.3) }
 
 pub put_row-requires : goal.put_row-requires
 put_row-requires c =
-    let q = c.requires in
-    (omega (arith, q.here.3, q.here.4), omega (arith, q.here.3, (ranged c.args.p q.p_value).zones_high))
-
-pub on_all-requires : goal.on_all-requires
-on_all-requires c =
-    c.requires.p_value
-
-pub shape_of-rows : goal.shape_of-rows
-shape_of-rows c = c.put_row.auto.rows
+    let h = c.requires.here in
+    (omega (arith, h.1, h.2), omega (arith, h.1, (ranged c.args.index.now.p c.args.index.now.sound).zones_high))
 
 pub returns : goal.returns
 unfolding left_at
 returns c =
     let a = c.args in
-    let p = a.p in
+    let i = a.index.now in
+    let p = i.p in
     let h = c.requires.here in
-    let low = low_drive p a.gone in
+    let b = i.lowest.0 in
+    let low = low_drive p i.gone in
     let n = c.lowest_on in
     let yes = c.if-lowest_on-z.false in
-    let seg = c.seg_in-segment in
-    let here = ap (is_in a.gone) h.2 ∙ h.0.1 in
-    let on : Seg → Bool = λ x. all (λ d. ltb (zone_on x d) p.Z) (present p a.gone) in record {
+    let seg = c.seg_by-segment in
+    let here = ap (is_in i.gone) b ∙ h.0.1 in
+    let on : Seg → Bool = λ x. all (λ d. ltb (zone_on x d) p.Z) (present p i.gone) in record {
       by_index = (λ off ps long x e.
           let v = view_of p off a.image.now ps in
-          let f = n.ensures.value v a.gone here x in
-          let l : leads p v low a.z ≡ true = lead_found p v low a.low a.z a.serial.0 n.result h.2 h.3 e f ∙ eq-eqb n.result a.z yes in
-          let q = seg.ensures off ps long x (sym yes ∙ f) ∙ seg_is p v a.gone a.z a.serial.0 e in
-          c.on_all.ensures ∙ ap on q ∙ sym (ap (λ (b : Bool). b && on (seg_at p v a.gone a.z)) l));
+          let f = n.ensures.value v here x in
+          let l : leads p v low a.z ≡ true = lead_found p v low i.low a.z a.serial.0 n.result b h.1 e f ∙ eq-eqb n.result a.z yes in
+          let q = seg.ensures off ps a.serial.0 long (sym yes ∙ f) (λ d k u m w. search rules) ∙ seg_is p v i.gone a.z a.serial.0 e in
+          c.on_all.ensures ∙ ap on q ∙ sym (ap (λ (b : Bool). b && on (seg_at p v i.gone a.z)) l));
       by_index_2 = (λ off ps long x e.
           let v = view_of p off a.image.now ps in
-          let f = n.ensures.value v a.gone here x in
-          let l : leads p v low a.z ≡ true = lead_found p v low a.low a.z a.serial.0 n.result h.2 h.3 e f ∙ eq-eqb n.result a.z yes in
-          let q = seg.ensures off ps long x (sym yes ∙ f) ∙ seg_is p v a.gone a.z a.serial.0 e in
+          let f = n.ensures.value v here x in
+          let l : leads p v low a.z ≡ true = lead_found p v low i.low a.z a.serial.0 n.result b h.1 e f ∙ eq-eqb n.result a.z yes in
+          let q = seg.ensures off ps a.serial.0 long (sym yes ∙ f) (λ d k u m w. search rules) ∙ seg_is p v i.gone a.z a.serial.0 e in
           c.put_row.ensures ∙ ap (λ (x : Seg). splice a.rows.now (8 * a.z) x.zones) q
-          ∙ sym (cond_true (leads p v low a.z) (splice a.rows.now (8 * a.z) (seg_at p v a.gone a.z).zones) a.rows.now l));
+          ∙ sym (cond_true (leads p v low a.z) (splice a.rows.now (8 * a.z) (seg_at p v i.gone a.z).zones) a.rows.now l));
     }

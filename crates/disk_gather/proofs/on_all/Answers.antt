@@ -1,55 +1,26 @@
--- `on_all`: all drives are missing or have a zone iff those from d on are so; one that is not ends it. Assumes nothing.
-use mathlib.Core.Path.{sym, ◌∙◌}
+-- `on_all`: all drives are missing or have a zone. Assumes nothing.
+use mathlib.Core.Path.{refl, sym, ap, ◌∙◌}
 use mathlib.Core.Bool.{Bool, ◌||◌}
 use Prim.Native.Nat.{ℕ}
 use native.Mathlib.Omega.{arith}
+use borrow.Author.Rules.{rules}
 use lib.Dec.{ltb}
-use borrow.Author.Tests.{not-true, not-false}
+use Rattle.std.specs.List.{range_with_len}
+use Rattle.std.proofs.lemmas.Iterator.{YieldsList-from_range}
+use Rattle.std.proofs.lemmas.Iterator.Search.{all_from_yields_List}
 use Rattle.spec.specs.Drives.{zone_on}
-use Rattle.spec.specs.Lists.{below, is_in}
+use Rattle.spec.specs.Lists.{all, below, is_in}
 use Rattle.spec.specs.Params.{drives_of, present}
 use Rattle.law_basic.specs.Ranges.{all_keep}
-use Rattle.law_scans.specs.Scans.{all_broken, all_passed, all-ended, all_start}
+use Rattle.disk_gather.specs.Ranges.{range_below, list_all_is}
 use Rattle.disk_gather.proofs.on_all.Goals as goal
-
-pub loop-d-init : goal.loop-d-init
-loop-d-init c =
-    let a = c.args in
-    (omega arith, all_start (λ e. is_in a.gone e || ltb (zone_on a.segment e) a.p.Z) a.p.N)
-
-pub is_on-requires : goal.is_on-requires
-is_on-requires c = record { p_value = c.requires; drive_lt_n = c.loop-d-test.true }
-
-pub returns-then-not-is_on : goal.returns-then-not-is_on
-unfolding present drives_of
-returns-then-not-is_on c =
-    let a = c.args in
-    let l = c.loop-d in
-    let f : ℕ → Bool = λ e. is_in a.gone e || ltb (zone_on a.segment e) a.p.Z in
-    let present-all = all_keep (λ d. ltb (zone_on a.segment d) a.p.Z) (is_in a.gone) (below a.p.N) in
-    sym (all_broken f l.d a.p.N c.loop-d-test.true (sym c.is_on.ensures ∙ not-true c.is_on.result c.if-not-is_on.true-raw)) ∙ l.invariant.1 ∙ sym present-all
-
-pub overflow_add-d : goal.overflow_add-d
-overflow_add-d c = omega arith
-
-pub loop-d-smaller : goal.loop-d-smaller
-loop-d-smaller c = omega arith
-
-pub loop-d-preserved : goal.loop-d-preserved
-loop-d-preserved c =
-    let a = c.args in
-    let l = c.loop-d in
-    let f : ℕ → Bool = λ e. is_in a.gone e || ltb (zone_on a.segment e) a.p.Z in (
-      omega (arith, c.loop-d-test.true),
-      sym (all_passed f l.d a.p.N c.loop-d-test.true (sym c.is_on.ensures
-          ∙ not-false c.is_on.result c.if-not-is_on.false-raw)) ∙ l.invariant.1,
-    )
 
 pub returns : goal.returns
 unfolding present drives_of
 returns c =
     let a = c.args in
-    let l = c.loop-d in
+    let n = a.p.N in
     let f : ℕ → Bool = λ e. is_in a.gone e || ltb (zone_on a.segment e) a.p.Z in
-    let present-all = all_keep (λ d. ltb (zone_on a.segment d) a.p.Z) (is_in a.gone) (below a.p.N) in
-    sym (all-ended f l.d a.p.N (omega (arith, c.loop-d-test.false))) ∙ l.invariant.1 ∙ sym present-all
+    all_from_yields_List f _ _ c.all.result c.all.ensures.ran (YieldsList-from_range 0 n n refl (omega arith)) (λ x b q k. search rules)
+    ∙ list_all_is f (range_with_len 0 n) ∙ ap (all f) (range_below n)
+    ∙ sym (all_keep (λ d. ltb (zone_on a.segment d) a.p.Z) (is_in a.gone) (below n))

@@ -13,9 +13,6 @@ use mathlib.Core.Path.{sym, ap, ap₂, ◌∙◌, subst}
 use native.Mathlib.Omega.{arith}
 use Rattle.disk_gather.proofs.own_kept.Goals as goal
 
-pub bounds-kept-g : goal.bounds-kept-g
-bounds-kept-g c = omega (arith, c.requires.z_in_bounds)
-
 pub returns-then-not-kept-g : goal.returns-then-not-kept-g
 returns-then-not-kept-g c =
     let a = c.args in
@@ -26,16 +23,13 @@ pub row-segment-requires : goal.row-segment-requires
 row-segment-requires c =
     (omega (arith, c.requires.z_in_bounds), omega (arith, c.requires.z_in_bounds, (ranged c.args.p c.requires.p_value).zones_high))
 
-pub own_zones-requires : goal.own_zones-requires
-own_zones-requires c = record {
-  p_value = c.requires.p_value;
-  z_in_bounds = (
-    c.requires.z_in_bounds.2,
-    subst (λ (s : Seg). ZonesLow c.args.p 0 s) (sym c.row-segment.ensures)
-        (c.requires.z_in_bounds.3 c.args.g c.requires.z_in_bounds.4 (not-false (get_or c.args.kept.now c.args.g false) c.if-not-kept-g.false-raw)),
-    omega (arith, c.requires.z_in_bounds, (ranged c.args.p c.requires.p_value).zones_high),
-  );
-}
+pub own_zones-requires-clause-z_in_bounds : goal.own_zones-requires-clause-z_in_bounds
+own_zones-requires-clause-z_in_bounds c = (
+  c.requires.z_in_bounds.2,
+  subst (λ (s : Seg). ZonesLow c.args.p 0 s) (sym c.row-segment.ensures)
+      (c.requires.z_in_bounds.3 c.args.g c.requires.z_in_bounds.4 (not-false (get_or c.args.kept.now c.args.g false) c.if-not-kept-g.false-raw)),
+  omega (arith, c.requires.z_in_bounds, (ranged c.args.p c.requires.p_value).zones_high),
+)
 
 pub returns : goal.returns
 returns c =

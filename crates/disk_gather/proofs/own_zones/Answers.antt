@@ -4,46 +4,22 @@ use Rattle.disk_gather.specs.Owners.{own_more}
 use Rattle.law_basic.specs.Segs.{low_here}
 use Rattle.spec.specs.Drives.{zone_on}
 use Rattle.spec.specs.Params.{offline_len}
-use borrow.Author.Tests.{lt-ltb, le-ltb}
+use borrow.Author.Tests.{lt-ltb}
 use lib.Dec.{eqb}
 use lib.ListN.{get_or, set, length-set}
 use mathlib.Core.Bool.{Bool, cond, ◌&&◌}
-use mathlib.Core.Path.{◌≡◌, refl, sym, ap, ◌∙◌}
+use mathlib.Core.Path.{◌≡◌, ap, ◌∙◌}
 use native.Mathlib.Omega.{arith}
 use Rattle.disk_gather.proofs.own_zones.Goals as goal
 
-pub overflow_cast-n : goal.overflow_cast-n
-overflow_cast-n c = omega arith
-
-pub loop-d-init : goal.loop-d-init
-loop-d-init c =
-    let a = c.args in (
-      omega arith,
-      refl,
-      λ e z h k.
-          sym (ap (λ (b : Bool). cond (b && eqb z (zone_on a.segment e)) a.g (get_or a.owners.now (e * a.p.Z + z) 0)) (le-ltb e 0 (omega arith))),
-    )
-
-pub zone_on-zone-requires : goal.zone_on-zone-requires
-zone_on-zone-requires c = record { p_value = c.requires.p_value; drive_lt_n = c.loop-d-test.true }
-
-pub offline_at-at-requires : goal.offline_at-at-requires
-offline_at-at-requires c =
+pub offline_at-at-requires-clause-drive_lt_n : goal.offline_at-at-requires-clause-drive_lt_n
+offline_at-at-requires-clause-drive_lt_n c =
     let a = c.args in
-    let t = c.loop-d-test.true in record { p_value = c.requires.p_value; drive_lt_n = (t, rw c.zone_on-zone.ensures (low_here a.p a.segment c.loop-d.d c.requires.z_in_bounds.1 t)) }
-
-pub offset_bounds-owners-at : goal.offset_bounds-owners-at
-offset_bounds-owners-at c = omega arith
+    let t = c.loop-d-test.true in (t, rw c.zone_on-zone.ensures (low_here a.p a.segment c.loop-d.d c.requires.z_in_bounds.1 t))
 
 pub bounds-owners-at : goal.bounds-owners-at
 unfolding offline_len
 bounds-owners-at c = omega (arith, c.offline_at-at.ensures.1, c.loop-d.invariant.1, c.requires.z_in_bounds.0)
-
-pub overflow_add-d : goal.overflow_add-d
-overflow_add-d c = omega arith
-
-pub loop-d-smaller : goal.loop-d-smaller
-loop-d-smaller c = omega arith
 
 pub loop-d-preserved : goal.loop-d-preserved
 loop-d-preserved c =
@@ -59,9 +35,6 @@ loop-d-preserved c =
           ap (λ (i : ℕ). get_or (set l.owners i a.g) (e * a.p.Z + z) 0) at
           ∙ own_more a.p a.owners.now l.owners h a.g l.d t (low_here a.p h l.d pre.1 t) (omega (arith, l.invariant.1, pre.0)) l.invariant.2 e z x y),
     )
-
-pub shape_of-owners : goal.shape_of-owners
-shape_of-owners c = c.loop-d.invariant.1
 
 pub returns : goal.returns
 returns c =

@@ -1,5 +1,5 @@
 -- `own_zones`: drive by drive the segment's row stands at its zone (`own_more`), and nothing else changes. Assumes nothing.
-use Prim.Native.Nat.{ℕ, ◌+◌, ◌-◌, ◌*◌, ◌≤◌, ◌<◌}
+use Prim.Native.Nat.{ℕ, ◌+◌, ◌*◌, ◌≤◌, ◌<◌}
 use Rattle.spec.specs.Drives.{zone_on}
 use lib.Dec.{ltb, eqb}
 use lib.ListN.{length, get_or}
@@ -11,6 +11,3 @@ abbrev pub invariant-loop-d : goal.invariant-loop-d
 invariant-loop-d l =
     (l.d ≤ l.p.N) × (length l.owners ≡ length l.initial.owners)
     × ((e z : ℕ) → e < l.p.N → z < l.p.Z → get_or l.owners (e * l.p.Z + z) 0 ≡ cond (ltb e l.d && eqb z (zone_on l.segment e)) l.g (get_or l.initial.owners (e * l.p.Z + z) 0))
-
-abbrev pub decreases-loop-d : goal.decreases-loop-d
-decreases-loop-d l = l.p.N - l.d

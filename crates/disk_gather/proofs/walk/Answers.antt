@@ -7,63 +7,30 @@ use Rattle.disk_gather.proofs.walk.Goals as goal
 
 pub loop-z-init : goal.loop-z-init
 loop-z-init c =
-    let a = c.args in λ v d i h x n. walk_start a.p v a.mask d a.serial.0 i a.from n
+    let b = c.args.part.now in λ v d i h x n. walk_start b.p v b.mask d c.args.serial.0 i c.args.from n
 
-pub offset_bounds-heads-z : goal.offset_bounds-heads-z
-offset_bounds-heads-z c =
-    omega (arith, c.loop-z-test.true, c.requires.mask_bound.1)
-
-pub bounds-heads-z : goal.bounds-heads-z
-bounds-heads-z c =
-    omega (arith, c.loop-z-test.true, c.requires.mask_bound.1)
-
-pub returns-then-heads-z : goal.returns-then-heads-z
-returns-then-heads-z c =
-    let a = c.args in
+pub returns-then-part-z : goal.returns-then-part-z
+returns-then-part-z c =
+    let b = c.args.part.now in
     let l = c.loop-z in record {
-      nearest = (λ v d i h x n. index_walk_hit a.p v a.mask d a.serial.0 a.heads.now a.links.now x i l.z (l.invariant v d i h x n)
-          c.loop-z-test.true c.if-heads-z.true);
+      nearest = (λ v d i h x n. index_walk_hit b.p v b.mask d c.args.serial.0 b.heads.now b.links.now x i l.z (l.invariant v d i h x n)
+          c.loop-z-test.true c.if-part-z.true);
       upper_bound = omega (arith, c.loop-z-test.true);
     }
 
-pub overflow_add-z : goal.overflow_add-z
-overflow_add-z c = omega (arith, c.loop-z-test.true)
-
-pub overflow_add-mask : goal.overflow_add-mask
-overflow_add-mask c =
-    omega (arith, c.requires.mask_bound.0)
-
-pub overflow_add-mask-in-loop-z : goal.overflow_add-mask-in-loop-z
-overflow_add-mask-in-loop-z c =
-    omega (arith, c.requires.mask_bound.0, c.loop-z-test.true)
-
-pub offset_bounds-links-mask : goal.offset_bounds-links-mask
-offset_bounds-links-mask c =
-    omega (arith, c.loop-z-test.true, c.requires.mask_bound.2)
-
-pub bounds-links-mask : goal.bounds-links-mask
-bounds-links-mask c =
-    omega (arith, c.loop-z-test.true, c.requires.mask_bound.2)
-
-pub overflow_add-z-in-loop-z : goal.overflow_add-z-in-loop-z
-overflow_add-z-in-loop-z c = omega (arith, c.loop-z-test.true, c.wide16.ensures.1)
-
-pub loop-z-smaller : goal.loop-z-smaller
-loop-z-smaller c = omega (arith, c.loop-z-test.true)
-
 pub loop-z-preserved : goal.loop-z-preserved
 loop-z-preserved c =
-    let a = c.args in
+    let b = c.args.part.now in
+    let r = c.args.serial.0 in
     let l = c.loop-z in
-    let u = c.loop-z-test.true in
-    λ v d i h x n. subst (λ (k : ℕ). Along a.p v a.mask d a.serial.0 i (l.z + 1 + k)) (sym c.wide16.ensures.0)
-    (index_walk_miss a.p v a.mask d a.serial.0 a.heads.now a.links.now x i l.z (l.invariant v d i h x n) u c.if-heads-z.false)
+    λ v d i h x n. subst (λ (k : ℕ). Along b.p v b.mask d r i (l.z + 1 + k)) (sym c.from.ensures)
+    (index_walk_miss b.p v b.mask d r b.heads.now b.links.now x i l.z (l.invariant v d i h x n) c.loop-z-test.true c.if-part-z.false)
 
 pub returns : goal.returns
 returns c =
-    let a = c.args in
+    let b = c.args.part.now in
     let l = c.loop-z in record {
-      nearest = (λ v d i h x n. walk_end a.p v a.mask d a.serial.0 a.heads.now a.links.now x i l.z (l.invariant v d i h x n)
+      nearest = (λ v d i h x n. walk_end b.p v b.mask d c.args.serial.0 b.heads.now b.links.now x i l.z (l.invariant v d i h x n)
           (omega (arith, c.loop-z-test.false)) h);
       upper_bound = omega arith;
     }

@@ -2,13 +2,15 @@
 use Prim.Native.Nat.{ℕ, ◌-◌, ◌≤◌}
 use lib.Bits.{bit_and}
 use Rattle.spec.specs.Drives.{View}
-use Rattle.disk_gather.specs.Index.{Nearest, in_bucket, Chained, Along}
+use Rattle.disk_gather.specs.Index.{Nearest, in_bucket, Along}
+use Rattle.disk_gather.specs.Values.{BucketsOf}
 use Rattle.disk_gather.proofs.walk.Given as goal
 
 abbrev pub invariant-loop-z : goal.invariant-loop-z
 invariant-loop-z l =
-    (v : View) (d i : ℕ) → i ≤ l.p.Z → Chained l.p v l.mask d 0 l.heads l.links → Nearest (in_bucket l.p v l.mask d (bit_and l.serial.0 l.mask)) l.p.Z i l.from
-    → Along l.p v l.mask d l.serial.0 i l.z
+    let b = l.part in
+    (v : View) (d i : ℕ) → i ≤ b.p.Z → BucketsOf v d b → Nearest (in_bucket b.p v b.mask d (bit_and l.serial.0 b.mask)) b.p.Z i l.fn.from
+    → Along b.p v b.mask d l.serial.0 i l.z
 
 abbrev pub decreases-loop-z : goal.decreases-loop-z
-decreases-loop-z l = l.p.Z - l.z
+decreases-loop-z l = l.part.p.Z - l.z

@@ -1,4 +1,5 @@
 -- `named_held`: none, one or more headers name the zone (`nothing_names`, `one_names`, `two_name`). Assumes nothing.
+use Rattle.disk_drives.specs.Viewed.{viewed}
 use mathlib.Core.Path.{sym, ap, ◌∙◌, subst}
 use Prim.Native.Nat.{ℕ, ◌≤◌}
 use native.Mathlib.Omega.{arith}
@@ -9,77 +10,72 @@ use Rattle.spec.specs.Drives.{view_of, is_good}
 use Rattle.spec.specs.Segments.{serial_in, holders}
 use Rattle.law_basic.specs.Geometry.{ranged}
 use Rattle.law_drives.specs.Tests.{and_false_left, and_false_right}
-use Rattle.disk_holders.specs.Held.{is_one_of, HeldOne, HeldAs, nothing_names, one_names, two_name, held_answer}
+use Rattle.disk_holders.specs.Held.{HeldOne, nothing_names, one_names, two_name, held_answer}
+use Rattle.disk_holders.specs.Next.{some_low, none_high}
+use Rattle.std.specs.Prelude.{unwrap_or}
 use Rattle.disk_holders.proofs.named_held.Goals as goal
 
 pub is_good-requires : goal.is_good-requires
-is_good-requires c = record { p_value = c.requires.p_value; offline_len = (c.requires.whole.1, c.requires.drive_lt_n.0, c.requires.drive_lt_n.1) }
+is_good-requires c = record { p_value = c.args.drives.now.sound; offline_len = (c.args.drives.now.listed, c.requires.drive_lt_n.0, c.requires.drive_lt_n.1) }
 
 pub returns-then-not-is_good : goal.returns-then-not-is_good
-unfolding is_one_of HeldAs
 returns-then-not-is_good c =
     let a = c.args in
-    let v = view_of a.p a.offline.now a.image.now a.pointers.now in
+    let v = viewed a.drives.now in
     let g = c.is_good in record {
-      zone_value = and_false_left (is_good a.p a.offline.now a.drive a.zone) (eqb (length (holders a.p v a.gone a.drive a.zone)) 1)
+      zone_value = and_false_left (is_good a.drives.now.p a.drives.now.offline.now a.drive a.zone) (eqb (length (holders a.drives.now.p v a.gone a.drive a.zone)) 1)
           (sym g.ensures ∙ not-true g.result c.if-not-is_good.true-raw);
       held_as = tt;
     }
 
-pub low_drive-low-requires : goal.low_drive-low-requires
-low_drive-low-requires c = c.requires.p_value
-
-pub next_named-y-requires : goal.next_named-y-requires
-next_named-y-requires c = record { p_value = c.requires.p_value; whole = c.requires.whole; low_value = (c.low_drive-low.ensures.0, c.requires.drive_lt_n.0, omega arith) }
-
-pub returns-then-p-y : goal.returns-then-p-y
-unfolding is_one_of HeldAs
-returns-then-p-y c =
+pub returns-in_err-y : goal.returns-in_err-y
+returns-in_err-y c =
     let a = c.args in
-    let v = view_of a.p a.offline.now a.image.now a.pointers.now in
-    let n = c.next_named-y.ensures.0 in record {
-      zone_value = and_false_right (is_good a.p a.offline.now a.drive a.zone) (eqb (length (holders a.p v a.gone a.drive a.zone)) 1)
-          (nothing_names a.p v a.gone c.requires.whole.2 a.drive a.zone c.requires.drive_lt_n.0 c.requires.drive_lt_n.2 (subst (λ (x : ℕ). a.p.Z ≤ x) n c.if-p-y.true));
+    let v = viewed a.drives.now in
+    rw c.from_residual.ensures record {
+      zone_value = and_false_right (is_good a.drives.now.p a.drives.now.offline.now a.drive a.zone) (eqb (length (holders a.drives.now.p v a.gone a.drive a.zone)) 1)
+          (nothing_names a.drives.now.p v a.gone c.requires.here a.drive a.zone c.requires.drive_lt_n.0 c.requires.drive_lt_n.2 (omega (arith, c.in_err-y.ensures.0)));
       held_as = tt;
     }
 
 pub overflow_add-y : goal.overflow_add-y
 overflow_add-y c =
-    omega (arith, c.if-p-y.false, (ranged c.args.p c.requires.p_value).zones_high)
+    omega (arith, c.in_ok-y.ensures.1, (ranged c.args.drives.now.p c.args.drives.now.sound).zones_high)
 
 pub next_named-other-requires : goal.next_named-other-requires
-next_named-other-requires c = record { p_value = c.requires.p_value; whole = c.requires.whole; low_value = (c.low_drive-low.ensures.0, c.requires.drive_lt_n.0, omega (arith, c.if-p-y.false)) }
+next_named-other-requires c = record { here = c.requires.here; low_value = (c.low_drive-low.ensures.0, c.requires.drive_lt_n.0, omega (arith, c.in_ok-y.ensures.1)) }
 
-pub returns-then-other-p : goal.returns-then-other-p
-unfolding is_one_of HeldAs
-returns-then-other-p c =
+pub returns-then-is_some : goal.returns-then-is_some
+returns-then-is_some c =
     let a = c.args in
-    let v = view_of a.p a.offline.now a.image.now a.pointers.now in
-    let y = c.next_named-y in
+    let v = viewed a.drives.now in
+    let y = c.in_ok-y in
+    let (ey, ly) = y.ensures in
     let x = c.next_named-other in record {
-      zone_value = and_false_right (is_good a.p a.offline.now a.drive a.zone) (eqb (length (holders a.p v a.gone a.drive a.zone)) 1)
-          (two_name a.p v a.gone c.requires.whole.2 a.drive a.zone c.requires.drive_lt_n.0 c.requires.drive_lt_n.2 y.result c.if-p-y.false y.ensures.0
-          x.result c.if-other-p.true x.ensures.0);
+      zone_value = and_false_right (is_good a.drives.now.p a.drives.now.offline.now a.drive a.zone) (eqb (length (holders a.drives.now.p v a.gone a.drive a.zone)) 1)
+          (two_name a.drives.now.p v a.gone c.requires.here a.drive a.zone c.requires.drive_lt_n.0 c.requires.drive_lt_n.2 y.y ly ey
+          (unwrap_or x.result a.drives.now.p.Z) (some_low x.result a.drives.now.p.Z (sym c.is_some.ensures ∙ c.if-is_some.true) x.ensures.1) x.ensures.0);
       held_as = tt;
     }
 
 pub serial_in-requires : goal.serial_in-requires
-serial_in-requires c = record { p_value = c.requires.p_value; image_len = (c.requires.whole.0.image_long, c.low_drive-low.ensures.1, c.if-p-y.false) }
+serial_in-requires c = record { p_value = c.args.drives.now.sound; image_len = (c.args.drives.now.whole.image_long, c.low_drive-low.ensures.1, c.in_ok-y.ensures.1) }
 
 pub returns : goal.returns
-unfolding is_one_of HeldAs view_of
+unfolding view_of
 returns c =
     let a = c.args in
-    let v = view_of a.p a.offline.now a.image.now a.pointers.now in
+    let v = viewed a.drives.now in
     let g = c.is_good in
-    let y = c.next_named-y in
+    let y = c.in_ok-y in
+    let (ey, ly) = y.ensures in
     let x = c.next_named-other in
-    let s = c.serial_in.ensures a.offline.now a.pointers.now c.requires.whole.0.pointers_long
-    ∙ ap (λ (d : ℕ). serial_in a.p v d y.result) c.low_drive-low.ensures.0 in
-    let h = one_names a.p v a.gone c.requires.whole.2 a.drive a.zone c.requires.drive_lt_n.0 c.requires.drive_lt_n.2 y.result c.if-p-y.false y.ensures.0
-    (subst (λ (n : ℕ). a.p.Z ≤ n) x.ensures.0 c.if-other-p.false) in
-    let k : HeldOne a.p v a.gone a.drive a.zone c.serial_in.result.0 = subst (HeldOne a.p v a.gone a.drive a.zone) (sym s) h in record {
-      zone_value = held_answer a.p v a.gone a.drive a.zone c.serial_in.result.0
+    let s = c.serial_in.ensures a.drives.now.offline.now a.drives.now.pointers.now c.args.drives.now.whole.pointers_long
+    ∙ ap (λ (d : ℕ). serial_in a.drives.now.p v d y.y) c.low_drive-low.ensures.0 in
+    let h = one_names a.drives.now.p v a.gone c.requires.here a.drive a.zone c.requires.drive_lt_n.0 c.requires.drive_lt_n.2 y.y ly ey
+    (subst (λ (n : ℕ). a.drives.now.p.Z ≤ n) x.ensures.0 (none_high x.result a.drives.now.p.Z (sym c.is_some.ensures ∙ c.if-is_some.false))) in
+    let k : HeldOne a.drives.now.p v a.gone a.drive a.zone c.serial_in.result.0 = subst (HeldOne a.drives.now.p v a.gone a.drive a.zone) (sym s) h in record {
+      zone_value = held_answer a.drives.now.p v a.gone a.drive a.zone c.serial_in.result.0
           (sym g.ensures ∙ not-false g.result c.if-not-is_good.false-raw) k;
       held_as = k;
     }

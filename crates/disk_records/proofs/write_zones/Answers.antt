@@ -1,5 +1,5 @@
 -- `write_zones`: what remains to be written makes at each turn what all zones make of the buffer at the start (`ZonesLeft`). Assumes nothing.
-use mathlib.Core.Path.{refl, sym, ap, ◌∙◌}
+use mathlib.Core.Path.{sym, ap, ◌∙◌}
 use Prim.Native.Nat.{ℕ, ◌+◌, ◌*◌, ◌<◌}
 use native.Mathlib.Omega.{arith}
 use Rattle.spec.specs.Bytes.{to_be, splice}
@@ -11,7 +11,7 @@ use Rattle.disk_records.proofs.write_zones.Goals as goal
 
 pub loop-d-init : goal.loop-d-init
 loop-d-init c =
-    (omega arith, refl, zones_none c.args.p c.args.segment c.args.dst.now)
+    zones_none c.args.p c.args.segment c.args.dst.now
 
 pub overflow_mul-d : goal.overflow_mul-d
 overflow_mul-d c =
@@ -32,30 +32,18 @@ bounds-zones-d c =
 pub write_be32-requires : goal.write_be32-requires
 write_be32-requires c =
     let l = c.loop-d in
-    omega (arith, header_length c.args.p, c.requires.1, l.invariant.1)
-
-pub overflow_add-d-in-loop-d : goal.overflow_add-d-in-loop-d
-overflow_add-d-in-loop-d c = omega arith
-
-pub loop-d-smaller : goal.loop-d-smaller
-loop-d-smaller c = omega arith
+    omega (arith, header_length c.args.p, c.requires.1, l.auto.dst)
 
 pub loop-d-preserved : goal.loop-d-preserved
 loop-d-preserved c =
     let l = c.loop-d in
     let w = c.write_be32 in
     let g = c.args.segment in
-    let t : l.d < c.args.p.N = omega arith in (
-      omega arith,
-      w.auto.dst ∙ l.invariant.1,
-      zones_more c.args.p g c.args.dst.now l.dst w.new.dst l.d t l.invariant.2
-          (w.ensures ∙ ap (λ (z : ℕ). splice l.dst (13 + 4 * l.d) (to_be 4 z)) (sym (zone_is g l.d))),
-    )
-
-pub shape_of-dst : goal.shape_of-dst
-shape_of-dst c = c.loop-d.invariant.1
+    let t : l.d < c.args.p.N = omega arith in
+    zones_more c.args.p g c.args.dst.now l.dst w.new.dst l.d t l.invariant
+    (w.ensures ∙ ap (λ (z : ℕ). splice l.dst (13 + 4 * l.d) (to_be 4 z)) (sym (zone_is g l.d)))
 
 pub returns : goal.returns
 returns c =
     let l = c.loop-d in
-    header_zones_all c.args.p c.args.segment c.args.dst.now l.dst l.d (omega arith) c.requires.1 l.invariant.2
+    header_zones_all c.args.p c.args.segment c.args.dst.now l.dst l.d (omega arith) c.requires.1 l.invariant

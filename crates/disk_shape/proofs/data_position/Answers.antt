@@ -1,4 +1,4 @@
--- `data_position`: below the parity's drive it is the drive, else one less; drive 0 gives 0, as subtraction does in the definition. Assumes nothing.
+-- `data_position`: below the parity's drive it is the drive, else one less; below 0 it is 0, as subtraction is in the definition. Assumes nothing.
 use mathlib.Core.Path.{◌≡◌, sym, ap, ◌∙◌}
 use mathlib.Core.Bool.{Bool, true, false, cond}
 use Prim.Native.Nat.{◌-◌}
@@ -19,18 +19,6 @@ returns-then-drive-parity_drive c =
     let e : ltb d (parity_drive p s) ≡ true = lt-ltb d (parity_drive p s) (omega (arith, q, c.if-drive-parity_drive.true)) in
     (sym (ap (λ (b : Bool). cond b d (d - 1)) e), omega arith)
 
-pub returns-then-drive-eq0 : goal.returns-then-drive-eq0
-unfolding data_position
-returns-then-drive-eq0 c =
-    let a = c.args in
-    let p = a.p in
-    let s = a.stripe in
-    let d = a.drive in
-    let q = c.parity_drive.ensures.0 in
-    let e : ltb d (parity_drive p s) ≡ false = le-ltb d (parity_drive p s) (omega (arith, q, c.if-drive-parity_drive.false)) in
-    let z : 0 ≡ d - 1 = omega (arith, c.if-drive-eq0.true) in
-    (z ∙ sym (ap (λ (b : Bool). cond b d (d - 1)) e), omega arith)
-
 pub returns : goal.returns
 unfolding data_position
 returns c =
@@ -40,4 +28,4 @@ returns c =
     let d = a.drive in
     let q = c.parity_drive.ensures.0 in
     let e : ltb d (parity_drive p s) ≡ false = le-ltb d (parity_drive p s) (omega (arith, q, c.if-drive-parity_drive.false)) in
-    (sym (ap (λ (b : Bool). cond b d (d - 1)) e), omega arith)
+    (c.saturating_sub.ensures ∙ sym (ap (λ (b : Bool). cond b d (d - 1)) e), omega (arith, c.saturating_sub.ensures))

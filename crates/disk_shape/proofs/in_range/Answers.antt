@@ -1,144 +1,68 @@
--- `in_range`: each test is one conjunct of the definition, in its order; the ranges of Z, S and N bound the product of the last by 468378645. Assumes nothing.
-use mathlib.Core.Path.{◌≡◌, sym, ap, ◌∙◌}
-use mathlib.Core.Bool.{true, false}
-use Prim.Native.Nat.{ℕ, ◌-◌, ◌*◌, ◌≤◌}
-use native.Mathlib.Omega.{arith}
-use borrow.Author.Tests.{not-true, not-false}
+-- `in_range`: the tests are the conjuncts of the definition, in its order; the ranges of Z, S and N bound the product of the last by 468378645. Assumes nothing.
+use Rattle.std.proofs.Common.{◌≡◌, sym, ap, ◌∙◌, Bool, true, ◌&&◌, ℕ, ◌-◌, ◌*◌, ◌≤◌, arith}
+use Rattle.spec.specs.declared.Params.{Params}
 use Rattle.spec.specs.Lists.{is_member_of}
 use Rattle.spec.specs.Params.{between, block_sizes, data_count, most_with, most_addresses, in_range}
 use Rattle.law_basic.specs.Geometry.{prod_le, between-low, between_high}
+use Rattle.law_basic.specs.Ranges.{and_left, and_right}
 use Rattle.disk_shape.proofs.in_range.Goals as goal
 
-pub returns-then-not-is_between : goal.returns-then-not-is_between
-unfolding in_range
-returns-then-not-is_between c =
-    let e0 : between 3 8 c.args.p.N ≡ false = sym c.is_between.ensures ∙ not-true c.is_between.result c.if-not-is_between.true-raw in
-    simp (e0)
+-- all but the last conjunct
+abbrev shaped : Params → Bool
+shaped p = between 3 8 p.N && is_member_of p.B block_sizes && between 4 1024 p.Z && between 1 65535 p.S && between 1 256 p.G
 
-pub returns-then-not-is_block_size : goal.returns-then-not-is_block_size
-unfolding in_range
-returns-then-not-is_block_size c =
-    let if1 = c.if-not-is_between in
-    let is-between = c.is_between in
-    let args = c.args in
-    let e0 : between 3 8 args.p.N ≡ true = sym is-between.ensures ∙ not-false is-between.result if1.false-raw in
-    let e1 : is_member_of args.p.B block_sizes ≡ false = sym c.is_block_size.ensures ∙ not-true c.is_block_size.result c.if-not-is_block_size.true-raw in
-    simp (e0, e1)
+sizes : (p : Params) → shaped p ≡ true → (3 ≤ p.N) × (p.N ≤ 8) × (4 ≤ p.Z) × ((p.Z - 3) * p.S ≤ 66911235)
+sizes p h =
+    let a = between 3 8 p.N in
+    let b = is_member_of p.B block_sizes in
+    let z = between 4 1024 p.Z in
+    let s = between 1 65535 p.S in
+    let h4 = and_left (a && b && z && s) (between 1 256 p.G) h in
+    let h3 = and_left (a && b && z) s h4 in
+    let h1 = and_left a b (and_left (a && b) z h3) in
+    let hz = and_right (a && b) z h3 in (
+      between-low 3 8 p.N h1,
+      between_high 3 8 p.N h1,
+      between-low 4 1024 p.Z hz,
+      prod_le (p.Z - 3) p.S 1021 65535 66911235 (omega (arith, between_high 4 1024 p.Z hz)) (between_high 1 65535 p.S (and_right (a && b && z) s h4)) (omega arith),
+    )
 
-pub returns-then-not-is_between-2 : goal.returns-then-not-is_between-2
+pub returns-then-not-shaped : goal.returns-then-not-shaped
 unfolding in_range
-returns-then-not-is_between-2 c =
-    let if2 = c.if-not-is_block_size in
-    let is-block-size = c.is_block_size in
-    let if1 = c.if-not-is_between in
-    let is-between = c.is_between in
-    let args = c.args in
-    let e0 : between 3 8 args.p.N ≡ true = sym is-between.ensures ∙ not-false is-between.result if1.false-raw in
-    let e1 : is_member_of args.p.B block_sizes ≡ true = sym is-block-size.ensures ∙ not-false is-block-size.result if2.false-raw in
-    let e2 : between 4 1024 args.p.Z ≡ false = sym c.is_between-2.ensures ∙ not-true c.is_between-2.result c.if-not-is_between-2.true-raw in
-    simp (e0, e1, e2)
-
-pub returns-then-not-is_between-3 : goal.returns-then-not-is_between-3
-unfolding in_range
-returns-then-not-is_between-3 c =
-    let if3 = c.if-not-is_between-2 in
-    let is-between2 = c.is_between-2 in
-    let if2 = c.if-not-is_block_size in
-    let is-block-size = c.is_block_size in
-    let if1 = c.if-not-is_between in
-    let is-between = c.is_between in
-    let args = c.args in
-    let e0 : between 3 8 args.p.N ≡ true = sym is-between.ensures ∙ not-false is-between.result if1.false-raw in
-    let e1 : is_member_of args.p.B block_sizes ≡ true = sym is-block-size.ensures ∙ not-false is-block-size.result if2.false-raw in
-    let e2 : between 4 1024 args.p.Z ≡ true = sym is-between2.ensures ∙ not-false is-between2.result if3.false-raw in
-    let e3 : between 1 65535 args.p.S ≡ false = sym c.is_between-3.ensures ∙ not-true c.is_between-3.result c.if-not-is_between-3.true-raw in
-    simp (e0, e1, e2, e3)
-
-pub returns-then-not-is_between-4 : goal.returns-then-not-is_between-4
-unfolding in_range
-returns-then-not-is_between-4 c =
-    let if4 = c.if-not-is_between-3 in
-    let is-between3 = c.is_between-3 in
-    let if3 = c.if-not-is_between-2 in
-    let is-between2 = c.is_between-2 in
-    let if2 = c.if-not-is_block_size in
-    let is-block-size = c.is_block_size in
-    let if1 = c.if-not-is_between in
-    let is-between = c.is_between in
-    let args = c.args in
-    let e0 : between 3 8 args.p.N ≡ true = sym is-between.ensures ∙ not-false is-between.result if1.false-raw in
-    let e1 : is_member_of args.p.B block_sizes ≡ true = sym is-block-size.ensures ∙ not-false is-block-size.result if2.false-raw in
-    let e2 : between 4 1024 args.p.Z ≡ true = sym is-between2.ensures ∙ not-false is-between2.result if3.false-raw in
-    let e3 : between 1 65535 args.p.S ≡ true = sym is-between3.ensures ∙ not-false is-between3.result if4.false-raw in
-    let e4 : between 1 256 args.p.G ≡ false = sym c.is_between-4.ensures ∙ not-true c.is_between-4.result c.if-not-is_between-4.true-raw in
-    simp (e0, e1, e2, e3, e4)
-
-pub overflow_sub-n : goal.overflow_sub-n
-overflow_sub-n c =
-    let if1 = c.if-not-is_between in
-    let is-between = c.is_between in
-    let args = c.args in
-    omega (arith, c.parity_count.ensures.2, between-low 3 8 args.p.N (sym is-between.ensures ∙ not-false is-between.result if1.false-raw))
+returns-then-not-shaped c =
+    let p = c.args.p in
+    let e : _ ≡ shaped p = λ j. c.is_between.ensures j && c.is_block_size.ensures j && c.is_between-2.ensures j && c.is_between-3.ensures j && c.is_between-4.ensures j in
+    sym (ap (λ (x : Bool). x && between 1 (most_addresses p) p.L) (sym e ∙ c.if-not-shaped.true))
 
 pub overflow_sub-p : goal.overflow_sub-p
 overflow_sub-p c =
-    let if3 = c.if-not-is_between-2 in
-    let is-between2 = c.is_between-2 in
-    let args = c.args in
-    omega (arith, between-low 4 1024 args.p.Z (sym is-between2.ensures ∙ not-false is-between2.result if3.false-raw))
+    let p = c.args.p in
+    let e : _ ≡ shaped p = λ j. c.is_between.ensures j && c.is_block_size.ensures j && c.is_between-2.ensures j && c.is_between-3.ensures j && c.is_between-4.ensures j in
+    omega (arith, sizes p (sym e ∙ c.if-not-shaped.false))
 
 pub overflow_mul-p : goal.overflow_mul-p
 overflow_mul-p c =
-    let if4 = c.if-not-is_between-3 in
-    let is-between3 = c.is_between-3 in
-    let if3 = c.if-not-is_between-2 in
-    let is-between2 = c.is_between-2 in
-    let args = c.args in
-    omega (
-      arith,
-      prod_le (args.p.Z - 3) args.p.S 1021 65535 66911235
-          (omega (arith, between_high 4 1024 args.p.Z (sym is-between2.ensures ∙ not-false is-between2.result if3.false-raw)))
-          (between_high 1 65535 args.p.S (sym is-between3.ensures ∙ not-false is-between3.result if4.false-raw)) (omega arith),
-    )
+    let p = c.args.p in
+    let e : _ ≡ shaped p = λ j. c.is_between.ensures j && c.is_block_size.ensures j && c.is_between-2.ensures j && c.is_between-3.ensures j && c.is_between-4.ensures j in
+    omega (arith, sizes p (sym e ∙ c.if-not-shaped.false))
+
+pub overflow_sub-p-2 : goal.overflow_sub-p-2
+overflow_sub-p-2 c =
+    let p = c.args.p in
+    let e : _ ≡ shaped p = λ j. c.is_between.ensures j && c.is_block_size.ensures j && c.is_between-2.ensures j && c.is_between-3.ensures j && c.is_between-4.ensures j in
+    omega (arith, sizes p (sym e ∙ c.if-not-shaped.false), c.parity_count.ensures)
 
 pub overflow_mul-p-2 : goal.overflow_mul-p-2
 overflow_mul-p-2 c =
-    let if4 = c.if-not-is_between-3 in
-    let is-between3 = c.is_between-3 in
-    let if3 = c.if-not-is_between-2 in
-    let is-between2 = c.is_between-2 in
-    let if1 = c.if-not-is_between in
-    let is-between = c.is_between in
-    let args = c.args in
-    let parities = c.parity_count in
-    let h : (args.p.Z - 3) * args.p.S ≤ 66911235 =
-    prod_le (args.p.Z - 3) args.p.S 1021 65535 66911235
-    (omega (arith, between_high 4 1024 args.p.Z (sym is-between2.ensures ∙ not-false is-between2.result if3.false-raw)))
-    (between_high 1 65535 args.p.S (sym is-between3.ensures ∙ not-false is-between3.result if4.false-raw)) (omega arith) in
-    omega (
-      arith,
-      prod_le ((args.p.Z - 3) * args.p.S) (args.p.N - parities.result) 66911235 7 468378645 h
-          (omega (arith, parities.ensures.1, between_high 3 8 args.p.N (sym is-between.ensures ∙ not-false is-between.result if1.false-raw))) (omega arith),
-    )
+    let p = c.args.p in
+    let e : _ ≡ shaped p = λ j. c.is_between.ensures j && c.is_block_size.ensures j && c.is_between-2.ensures j && c.is_between-3.ensures j && c.is_between-4.ensures j in
+    let h = sizes p (sym e ∙ c.if-not-shaped.false) in
+    omega (arith, prod_le ((p.Z - 3) * p.S) (p.N - c.parity_count.result) 66911235 7 468378645 h.3 (omega (arith, h, c.parity_count.ensures)) (omega arith))
 
 pub returns : goal.returns
 unfolding in_range most_addresses most_with data_count
 returns c =
-    let parities = c.parity_count in
-    let if5 = c.if-not-is_between-4 in
-    let is-between4 = c.is_between-4 in
-    let if4 = c.if-not-is_between-3 in
-    let is-between3 = c.is_between-3 in
-    let if3 = c.if-not-is_between-2 in
-    let is-between2 = c.is_between-2 in
-    let if2 = c.if-not-is_block_size in
-    let is-block-size = c.is_block_size in
-    let if1 = c.if-not-is_between in
-    let is-between = c.is_between in
-    let args = c.args in
-    let e0 : between 3 8 args.p.N ≡ true = sym is-between.ensures ∙ not-false is-between.result if1.false-raw in
-    let e1 : is_member_of args.p.B block_sizes ≡ true = sym is-block-size.ensures ∙ not-false is-block-size.result if2.false-raw in
-    let e2 : between 4 1024 args.p.Z ≡ true = sym is-between2.ensures ∙ not-false is-between2.result if3.false-raw in
-    let e3 : between 1 65535 args.p.S ≡ true = sym is-between3.ensures ∙ not-false is-between3.result if4.false-raw in
-    let e4 : between 1 256 args.p.G ≡ true = sym is-between4.ensures ∙ not-false is-between4.result if5.false-raw in
-    c.is_between-5.ensures ∙ ap (λ (k : ℕ). between 1 ((args.p.Z - 3) * args.p.S * (args.p.N - k)) args.p.L) parities.ensures.0 ∙ sym (simp (e0, e1, e2, e3, e4))
+    let p = c.args.p in
+    let e : _ ≡ shaped p = λ j. c.is_between.ensures j && c.is_block_size.ensures j && c.is_between-2.ensures j && c.is_between-3.ensures j && c.is_between-4.ensures j in
+    c.is_between-5.ensures ∙ ap (λ (k : ℕ). between 1 ((p.Z - 3) * p.S * (p.N - k)) p.L) c.parity_count.ensures.0
+    ∙ sym (ap (λ (x : Bool). x && between 1 (most_addresses p) p.L) (sym e ∙ c.if-not-shaped.false))

@@ -1,28 +1,20 @@
 -- `empty_zones`: the fewest so far and those of the drives from d on come to the fewest of all and of most. Assumes nothing.
-use mathlib.Core.Path.{◌≡◌, sym, ap, ◌∙◌}
+use mathlib.Core.Path.{sym, ap, ◌∙◌}
 use mathlib.Core.List.{map}
 use Prim.Native.Nat.{ℕ, ◌+◌, ◌-◌, min}
 use native.Mathlib.Omega.{arith}
 use Rattle.spec.specs.Lists.{up_from, below, tally, least}
 use Rattle.disk_zones.specs.Empty.{free_by, empty_count_holds, min_least, least_start, empty_least_turn, least_end}
 use Rattle.disk_zones.proofs.empty_zones.Goals as goal
-use Rattle.disk_zones.proofs.empty_zones.Goals.{else-most-n, then-most-n}
 
 pub loop-d-init : goal.loop-d-init
 loop-d-init c =
     let a = c.args in
     let f : ℕ → ℕ = λ e. tally (free_by a.p a.pointers.now a.offline.now e) (below a.p.Z) in
-    let e : c.if-most-n.n ≡ min a.most a.p.Z = elim c.if-most-n.branch [ then-most-n w ↦ omega (arith, w.n-is) | else-most-n w ↦ omega (arith, w.n-is) ] in
-    (omega arith, ap (λ (k : ℕ). least k (map f (up_from 0 (a.p.N - 0)))) e ∙ least_start f a.p.N (min a.most a.p.Z))
+    (omega arith, ap (λ (k : ℕ). least k (map f (up_from 0 (a.p.N - 0)))) c.min-n.ensures ∙ least_start f a.p.N (min a.most a.p.Z))
 
 pub free_on-n-requires : goal.free_on-n-requires
 free_on-n-requires c = record { p_value = c.requires.p_value; pointers_len = c.requires.pointers_len; drive_lt_n = c.loop-d-test.true }
-
-pub overflow_add-d : goal.overflow_add-d
-overflow_add-d c = omega arith
-
-pub loop-d-smaller : goal.loop-d-smaller
-loop-d-smaller c = omega arith
 
 pub loop-d-preserved : goal.loop-d-preserved
 loop-d-preserved c =

@@ -10,6 +10,3 @@ abbrev pub invariant-loop-d : goal.invariant-loop-d
 invariant-loop-d l = (l.d ≤ l.p.N)
     × (least l.n (map (λ e. tally (free_by l.p l.pointers l.offline e) (below l.p.Z)) (up_from l.d (l.p.N - l.d)))
     ≡ least (min l.most l.p.Z) (map (λ e. tally (free_by l.p l.pointers l.offline e) (below l.p.Z)) (below l.p.N)))
-
-abbrev pub decreases-loop-d : goal.decreases-loop-d
-decreases-loop-d l = l.p.N - l.d

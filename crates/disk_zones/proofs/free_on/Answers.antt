@@ -21,9 +21,6 @@ returns-then-n-most c =
     let e : l.n ≡ min a.most (l.n + tally f (below l.z)) = omega (arith, c.if-n-most.true) in
     e ∙ l.invariant.3
 
-pub overflow_sub-z : goal.overflow_sub-z
-overflow_sub-z c = omega arith
-
 pub is_free-requires : goal.is_free-requires
 is_free-requires c = record { p_value = c.requires.p_value; pointers_len = c.requires.pointers_len; drive_lt_n = (c.requires.drive_lt_n, omega arith) }
 

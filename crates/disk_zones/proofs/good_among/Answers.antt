@@ -8,7 +8,9 @@ use Rattle.spec.specs.Lists.{below, tally}
 use Rattle.law_basic.specs.Geometry.{ranged, offline_within}
 use Rattle.law_basic.specs.Ranges.{tally-below_hit, tally-below_miss}
 use Rattle.disk_zones.specs.Empty.{zero_at, zero_good}
+use Rattle.std.proofs.lemmas.Bool.{eq-eqb, ne_eqb}
 use Rattle.disk_zones.proofs.good_among.Goals as goal
+use Rattle.disk_zones.proofs.good_among.Goals.{then-offline-first-eq0, else-offline-first-eq0}
 
 pub offline_at-first-requires : goal.offline_at-first-requires
 offline_at-first-requires c = record { p_value = c.requires.p_value; drive_lt_n = (c.requires.offline_len.1, omega (arith, (ranged c.args.p c.requires.p_value).zones_low)) }
@@ -18,43 +20,25 @@ loop-z-init c =
     let a = c.args in
     (omega arith, omega (arith, c.requires.offline_len.2), omega arith, add-zero (tally (zero_at a.offline.now c.offline_at-first.result) (below a.lo)))
 
-pub overflow_add-good : goal.overflow_add-good
-overflow_add-good c =
-    omega (arith, c.offline_at-first.ensures.2, c.requires.offline_len.3, (ranged c.args.p c.requires.p_value).zones_high)
-
 pub bounds-offline-first : goal.bounds-offline-first
 bounds-offline-first c =
     let l = c.loop-z in
     let a = c.args in
     omega (arith, c.offline_at-first.ensures.0, c.requires.offline_len.0, offline_within a.p a.drive l.z c.requires.offline_len.1 (omega (arith, c.requires.offline_len.3, c.loop-z-test.true)))
 
-pub overflow_add-z : goal.overflow_add-z
-overflow_add-z c =
-    omega (arith, c.requires.offline_len.3, (ranged c.args.p c.requires.p_value).zones_high)
-
 pub overflow_add-n : goal.overflow_add-n
 overflow_add-n c =
     omega (arith, c.requires.offline_len.4)
-
-pub loop-z-smaller-then-good : goal.loop-z-smaller-then-good
-loop-z-smaller-then-good c = omega arith
-
-pub loop-z-preserved-then-good : goal.loop-z-preserved-then-good
-unfolding zero_at
-loop-z-preserved-then-good c =
-    let l = c.loop-z in
-    let f : ℕ → Bool = zero_at c.args.offline.now c.offline_at-first.result in
-    (omega arith, omega arith, omega arith, omega (arith, l.invariant.3, tally-below_hit f l.z c.if-good.true-raw))
-
-pub loop-z-smaller : goal.loop-z-smaller
-loop-z-smaller c = omega arith
 
 pub loop-z-preserved : goal.loop-z-preserved
 unfolding zero_at
 loop-z-preserved c =
     let l = c.loop-z in
     let f : ℕ → Bool = zero_at c.args.offline.now c.offline_at-first.result in
-    (omega arith, omega arith, omega arith, omega (arith, l.invariant.3, tally-below_miss f l.z c.if-good.false-raw))
+    elim c.if-offline-first-eq0.branch [
+      | then-offline-first-eq0 w ↦ (omega arith, omega arith, omega arith, omega (arith, l.invariant.3, w.n-is, tally-below_hit f l.z (eq-eqb _ 0 w.if-offline-first-eq0.true)))
+      | else-offline-first-eq0 w ↦ (omega arith, omega arith, omega arith, omega (arith, l.invariant.3, w.n-is, tally-below_miss f l.z (ne_eqb _ 0 w.if-offline-first-eq0.false)))
+    ]
 
 pub overflow_cast-result : goal.overflow_cast-result
 overflow_cast-result c = omega arith

@@ -20,12 +20,6 @@ loop-d-init c =
 pub good_on-n-requires : goal.good_on-n-requires
 good_on-n-requires c = record { p_value = c.requires.p_value; offline_len = (c.requires.offline_len.0, c.loop-d-test.true) }
 
-pub overflow_add-d : goal.overflow_add-d
-overflow_add-d c = omega arith
-
-pub loop-d-smaller : goal.loop-d-smaller
-loop-d-smaller c = omega arith
-
 pub loop-d-preserved : goal.loop-d-preserved
 loop-d-preserved c =
     let a = c.args in

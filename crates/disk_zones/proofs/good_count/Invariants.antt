@@ -9,6 +9,3 @@ use Rattle.disk_zones.proofs.good_count.Given as goal
 abbrev pub invariant-loop-d : goal.invariant-loop-d
 invariant-loop-d l =
     (l.d ≤ l.p.N) × (l.n ≤ l.most) × (least l.n (map (λ e. tally (is_good l.p l.offline e) (below l.p.Z)) (up_from l.d (l.p.N - l.d))) ≡ min l.most (good_count l.p l.offline))
-
-abbrev pub decreases-loop-d : goal.decreases-loop-d
-decreases-loop-d l = l.p.N - l.d

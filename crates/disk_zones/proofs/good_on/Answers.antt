@@ -27,7 +27,7 @@ overflow_add-z c =
 pub good_among-n-requires : goal.good_among-n-requires
 good_among-n-requires c =
     let l = c.loop-z in
-    let e = c.lower-end.ensures in record {
+    let e = c.min-end.ensures in record {
       p_value = c.requires.p_value;
       offline_len =
           (c.requires.offline_len.0, c.requires.offline_len.1, omega (arith, e, l.invariant.0), omega (arith, e), omega (arith, e));
@@ -39,17 +39,17 @@ overflow_add-n c =
     let a = c.args in
     let l = c.loop-z in
     let f : ℕ → Bool = is_good a.p a.offline.now a.drive in
-    omega (arith, l.invariant.1, c.good_among-n.ensures, tally-le f c.lower-end.result, c.lower-end.ensures, (ranged a.p c.requires.p_value).zones_high)
+    omega (arith, l.invariant.1, c.good_among-n.ensures, tally-le f c.min-end.result, c.min-end.ensures, (ranged a.p c.requires.p_value).zones_high)
 
 pub loop-z-smaller : goal.loop-z-smaller
-loop-z-smaller c = omega (arith, c.lower-end.ensures)
+loop-z-smaller c = omega (arith, c.min-end.ensures)
 
 pub loop-z-preserved : goal.loop-z-preserved
-loop-z-preserved c = (omega (arith, c.lower-end.ensures), omega (arith, c.loop-z.invariant.1, c.good_among-n.ensures))
+loop-z-preserved c = (omega (arith, c.min-end.ensures), omega (arith, c.loop-z.invariant.1, c.good_among-n.ensures))
 
 pub returns : goal.returns
 returns c =
     let a = c.args in
     let l = c.loop-z in
     let z : l.z ≡ a.p.Z = omega (arith, c.loop-z-test.false) in
-    c.lower.ensures ∙ ap (min a.most) (l.invariant.1 ∙ ap (λ (k : ℕ). tally (is_good a.p a.offline.now a.drive) (below k)) z)
+    c.min.ensures ∙ ap (min a.most) (l.invariant.1 ∙ ap (λ (k : ℕ). tally (is_good a.p a.offline.now a.drive) (below k)) z)

@@ -34,12 +34,6 @@ returns-then-not-is_full c =
     ∙ l.invariant.1)
     ∙ sym (sealed-list p off im ps a.gone a.segment pre.pointers_len.1 h pre.pointers_len.0)
 
-pub overflow_add-d : goal.overflow_add-d
-overflow_add-d c = omega arith
-
-pub loop-d-smaller : goal.loop-d-smaller
-loop-d-smaller c = omega arith
-
 pub loop-d-preserved : goal.loop-d-preserved
 loop-d-preserved c =
     let a = c.args in

@@ -13,6 +13,3 @@ invariant-loop-d l =
     (l.d ≤ l.p.N)
     × (all (λ e. is_in l.gone e || eqb (pointer_of l.p l.pointers e (zone_on l.segment e)) (capacity l.p)) (up_from l.d (l.p.N - l.d))
     ≡ all (λ e. is_in l.gone e || eqb (pointer_of l.p l.pointers e (zone_on l.segment e)) (capacity l.p)) (below l.p.N))
-
-abbrev pub decreases-loop-d : goal.decreases-loop-d
-decreases-loop-d l = l.p.N - l.d

@@ -26,12 +26,6 @@ returns-then-is_free c =
     let f : ℕ → Bool = free_by a.p a.pointers.now a.offline.now a.drive in
     (sym (first_turn f l.z a.p.Z c.loop-z-test.true (sym c.is_free.ensures ∙ c.if-is_free.true)) ∙ l.invariant.1, c.loop-z-test.true)
 
-pub overflow_add-z : goal.overflow_add-z
-overflow_add-z c = omega arith
-
-pub loop-z-smaller : goal.loop-z-smaller
-loop-z-smaller c = omega arith
-
 pub loop-z-preserved : goal.loop-z-preserved
 loop-z-preserved c =
     let a = c.args in

@@ -8,6 +8,3 @@ use Rattle.disk_zones.proofs.lowest_free.Given as goal
 abbrev pub invariant-loop-z : goal.invariant-loop-z
 invariant-loop-z l =
     (l.z ≤ l.p.Z) × (first_or 0 (keep (free_by l.p l.pointers l.offline l.drive) (up_from l.z (l.p.Z - l.z))) ≡ first_or 0 (keep (free_by l.p l.pointers l.offline l.drive) (below l.p.Z)))
-
-abbrev pub decreases-loop-z : goal.decreases-loop-z
-decreases-loop-z l = l.p.Z - l.z

@@ -46,12 +46,6 @@ reset-requires c =
 pub overflow_sub-left : goal.overflow_sub-left
 overflow_sub-left c = omega arith
 
-pub overflow_add-d : goal.overflow_add-d
-overflow_add-d c = omega arith
-
-pub loop-d-smaller : goal.loop-d-smaller
-loop-d-smaller c = omega arith
-
 pub loop-d-preserved : goal.loop-d-preserved
 unfolding reset_store
 loop-d-preserved c =

@@ -11,45 +11,14 @@ use Rattle.law_basic.specs.Le.{le_of_part-one}
 use Rattle.mem_bounds.specs.Bounds.{other, past, bounds_above, front_past}
 use Rattle.mem_bounds.proofs.front_past.Goals as goal
 
-pub bounds-bytes-0 : goal.bounds-bytes-0
-bounds-bytes-0 c = omega (arith, state_len_lem, c.requires.bytes_len)
-
-pub bounds-bytes-1 : goal.bounds-bytes-1
-bounds-bytes-1 c =
-    let pre = c.requires in
-    omega (arith, state_len_lem, pre.bytes_len)
-
 pub power-requires : goal.power-requires
-power-requires c =
-    omega (arith, (ranged c.args.p c.requires.p_value).drives_high)
-
-pub bounds-bytes-1-2 : goal.bounds-bytes-1-2
-bounds-bytes-1-2 c =
-    let pre = c.requires in
-    omega (arith, state_len_lem, pre.bytes_len)
-
-pub read_le64-serial-requires : goal.read_le64-serial-requires
-read_le64-serial-requires c =
-    let pre = c.requires in
-    omega (arith, state_len_lem, pre.bytes_len)
-
-pub read_le64-requires : goal.read_le64-requires
-read_le64-requires c =
-    let pre = c.requires in
-    omega (arith, state_len_lem, pre.bytes_len)
-
-pub read_le32-requires : goal.read_le32-requires
-read_le32-requires c =
-    let pre = c.requires in
-    omega (arith, state_len_lem, pre.bytes_len)
+power-requires c = omega (arith, (ranged c.args.p c.requires.p_value).drives_high)
 
 pub overflow_cast-p : goal.overflow_cast-p
-overflow_cast-p c =
-    omega (arith, (ranged c.args.p c.requires.p_value).stripes_high)
+overflow_cast-p c = omega (arith, (ranged c.args.p c.requires.p_value).stripes_high)
 
 pub overflow_add-p : goal.overflow_add-p
-overflow_add-p c =
-    omega (arith, (ranged c.args.p c.requires.p_value).stripes_high)
+overflow_add-p c = omega (arith, (ranged c.args.p c.requires.p_value).stripes_high)
 
 pub returns : goal.returns
 unfolding front_past
@@ -60,7 +29,7 @@ returns c =
     let e0 : get_or bs 0 0 ≡ le_of (part 0 1 bs) = le_of_part-one 0 bs (omega arith) in
     let e1 : get_or bs 1 0 ≡ le_of (part 1 1 bs) = le_of_part-one 1 bs h in
     let f0 = c.other-live.ensures.0 ∙ ap other e0 in
-    let f1 = c.past-gone.ensures.0 ∙ ap₂ past c.power.ensures (c.wide32.ensures.0 ∙ e1) in
+    let f1 = c.past-gone.ensures.0 ∙ ap₂ past c.power.ensures (c.from.ensures ∙ e1) in
     let f2 = c.past-lost.ensures.0 ∙ ap (past 2) (c.count.ensures.0 ∙ ap ones e1) in
     let f3 = c.above-opened.ensures.0 ∙ ap₂ bounds_above c.read_le64-serial.ensures c.read_le64.ensures in
     let f4 = c.past-next.ensures.0 ∙ ap (past (p.S + 1)) c.read_le32.ensures in (

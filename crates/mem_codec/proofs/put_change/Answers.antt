@@ -1,5 +1,4 @@
 -- `put_change`: the edits of the numbers in front, then of an eighth where one changes. Assumes nothing.
-use Rattle.mem_codec.specs.Codec.{state_len_lem}
 use Rattle.mem_codec.specs.Changes.{change_front, change_row}
 use Rattle.mem_rows.specs.Rows.{RowSized}
 use borrow.Author.Rules.{rules}
@@ -10,29 +9,11 @@ use Rattle.mem_codec.proofs.put_change.Goals.{Start}
 row_sized : (c : Start) → RowSized c.args.c.row
 row_sized c = record { addresses = search rules; stamps = search rules; offsets = search rules }
 
-pub put_counts-requires : goal.put_counts-requires
-put_counts-requires c = omega (arith, state_len_lem)
-
 pub returns-then-i-ge8 : goal.returns-then-i-ge8
 returns-then-i-ge8 c =
     let put-counts = c.put_counts in
     let slice-known = c.slice_known-1 in
     change_front c.args.dst.now c.requires (λ k h. omega (arith, slice-known.given k)) c.args.c put-counts.new.dst put-counts.ensures c.if-i-ge8.true
-
-pub put_marks-requires : goal.put_marks-requires
-put_marks-requires c =
-    let if1 = c.if-i-ge8 in
-    let put-counts = c.put_counts in
-    let pre = c.requires in
-    (omega (arith, if1.false), omega (arith, state_len_lem, put-counts.auto.dst, pre))
-
-pub put_cells-requires : goal.put_cells-requires
-put_cells-requires c =
-    let put-marks = c.put_marks in
-    let if1 = c.if-i-ge8 in
-    let put-counts = c.put_counts in
-    let pre = c.requires in
-    (omega (arith, if1.false), omega (arith, state_len_lem, put-marks.auto.dst, put-counts.auto.dst, pre))
 
 pub returns : goal.returns
 returns c =

@@ -2,7 +2,6 @@
 use mathlib.Core.Path.{◌≡◌, ap, ◌∙◌}
 use mathlib.Core.List.{List, [], ◌∷◌}
 use Prim.Native.Nat.{ℕ, ◌+◌, ◌*◌, ◌<◌}
-use lib.ListN.{length-set}
 use Rattle.spec.specs.Bytes.{to_le, splice}
 use Rattle.spec.specs.Lists.{flat, total}
 use Rattle.spec.specs.Memory.{state_sections, section_len}
@@ -15,12 +14,6 @@ use Rattle.mem_codec.proofs.put_marks.Goals.{Start}
 
 byte_fits : (c : Start) → (c.args.filled < 256) × (c.args.writes < 256) × (c.args.landed < 256)
 byte_fits c = (search rules, search rules, search rules)
-
-pub bounds-dst-i-2 : goal.bounds-dst-i-2
-bounds-dst-i-2 c = simp length-set (omega arith)
-
-pub bounds-dst-i-3 : goal.bounds-dst-i-3
-bounds-dst-i-3 c = simp length-set (omega arith)
 
 pub returns : goal.returns
 unfolding written_all_of edit_written state_sections section_len total

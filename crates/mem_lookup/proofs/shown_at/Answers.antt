@@ -1,9 +1,8 @@
 -- `shown_at`: the offsets from o on at which the table shows the stripe are all of them: a hit at o is the lowest, a miss passes on;
--- from `group_end` on no offset of the group shows it, and it is S. Assumes nothing.
+-- from `group_end` on no offset of the group shows it, and there is none. Assumes nothing.
 -- the offsets from o on at which the table shows the stripe are all of them
 use Prim.Native.Nat.{ℕ, ◌+◌, ◌-◌, ◌*◌, ◌≤◌, ◌<◌}
 use Rattle.spec.specs.Drives.{view_of}
-use Rattle.spec.specs.Layout.{group}
 use Rattle.spec.specs.Lists.{up_from, keep}
 use Rattle.spec.specs.Memory.{compact_at, shown_at}
 use Rattle.spec.specs.Params.{image_len, compact_len}
@@ -143,17 +142,9 @@ returns-then-compact-row c =
     record {
       by_index = (λ off im h. (search_hit f o m a.p.S (l off im)
           (loop.invariant ∙ shown_all (goal.at.returns-then-compact-row c).After-group_end-end off im h) gt hit).0);
-      by_index_2 =
-          (λ off im h. ne_eqb o a.p.S (λ q. omega arith)
-          ∙ sym (search_hit f o m a.p.S (l off im) (loop.invariant ∙ shown_all (goal.at.returns-then-compact-row c).After-group_end-end off im h) gt hit).1);
-      upper_bound = omega arith;
+      by_index_2 = λ off im h. sym (search_hit f o m a.p.S (l off im) (loop.invariant ∙ shown_all (goal.at.returns-then-compact-row c).After-group_end-end off im h) gt hit).1;
+      upper_bound = lt;
     }
-
-pub overflow_add-o : goal.overflow_add-o
-overflow_add-o c = omega (arith, c.loop-o-test.true)
-
-pub loop-o-smaller : goal.loop-o-smaller
-loop-o-smaller c = omega (arith, c.loop-o-test.true)
 
 pub loop-o-preserved : goal.loop-o-preserved
 loop-o-preserved c =
@@ -187,7 +178,6 @@ returns c =
     (omega (arith, c.loop-o-test.false)) h in
     record {
       by_index = (λ off im h. (search_end f o m a.p.S (l off im) (c.loop-o.invariant ∙ shown_all (goal.at.returns c).After-group_end-end off im h) past).0);
-      by_index_2 = (λ off im h. eq-eqb a.p.S a.p.S refl
-          ∙ sym (search_end f o m a.p.S (l off im) (c.loop-o.invariant ∙ shown_all (goal.at.returns c).After-group_end-end off im h) past).1);
-      upper_bound = omega arith;
+      by_index_2 = λ off im h. sym (search_end f o m a.p.S (l off im) (c.loop-o.invariant ∙ shown_all (goal.at.returns c).After-group_end-end off im h) past).1;
+      upper_bound = tt;
     }

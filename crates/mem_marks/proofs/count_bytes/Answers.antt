@@ -10,27 +10,13 @@ use Rattle.mem_marks.proofs.count_bytes.Goals as goal
 pub loop-i-init : goal.loop-i-init
 loop-i-init c =
     let a = c.args in
-    (omega arith, omega arith, sym (kept_nothing (is_marked a.marks.now) (8 * a.a)), omega arith)
-
-pub bounds-marks-i : goal.bounds-marks-i
-bounds-marks-i c = omega arith
-
-pub overflow_add-n : goal.overflow_add-n
-overflow_add-n c = omega arith
-
-pub overflow_add-i : goal.overflow_add-i
-overflow_add-i c = omega arith
-
-pub loop-i-smaller : goal.loop-i-smaller
-loop-i-smaller c = omega arith
+    (sym (kept_nothing (is_marked a.marks.now) (8 * a.a)), omega arith)
 
 pub loop-i-preserved : goal.loop-i-preserved
 loop-i-preserved c =
     let a = c.args in
     let l = c.loop-i in (
-      omega arith,
-      omega arith,
-      ap (λ (x : ℕ). l.n + x) c.count-n.ensures.0 ∙ byte_more a.marks.now a.a l.i l.n l.invariant.0 (omega (arith, c.shared_slice_known-in-loop-i-1.given l.i)) l.invariant.2,
+      ap (λ (x : ℕ). l.n + x) c.count-n.ensures.0 ∙ byte_more a.marks.now a.a l.i l.n (omega arith) (omega (arith, c.shared_slice_known-in-loop-i-1.given l.i)) l.invariant.0,
       omega (arith, c.count-n.ensures.1),
     )
 
@@ -39,4 +25,4 @@ returns c =
     let a = c.args in
     let l = c.loop-i in
     let e : l.i ≡ a.b = omega arith in
-    (l.invariant.2 ∙ ap (λ (x : ℕ). length (keep (is_marked a.marks.now) (up_from (8 * a.a) (8 * x - 8 * a.a)))) e, omega arith)
+    (l.invariant.0 ∙ ap (λ (x : ℕ). length (keep (is_marked a.marks.now) (up_from (8 * a.a) (8 * x - 8 * a.a)))) e, omega arith)

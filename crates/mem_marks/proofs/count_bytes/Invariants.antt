@@ -7,7 +7,4 @@ use mathlib.Core.Path.{◌≡◌}
 use Rattle.mem_marks.proofs.count_bytes.Given as goal
 
 abbrev pub invariant-loop-i : goal.invariant-loop-i
-invariant-loop-i l = (l.a ≤ l.i) × (l.i ≤ l.b) × (l.n ≡ length (keep (is_marked l.marks) (up_from (8 * l.a) (8 * l.i - 8 * l.a)))) × (l.n ≤ 8 * l.i - 8 * l.a)
-
-abbrev pub decreases-loop-i : goal.decreases-loop-i
-decreases-loop-i l = l.b - l.i
+invariant-loop-i l = (l.n ≡ length (keep (is_marked l.marks) (up_from (8 * l.a) (8 * l.i - 8 * l.a)))) × (l.n ≤ 8 * l.i - 8 * l.a)

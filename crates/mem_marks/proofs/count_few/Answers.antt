@@ -14,19 +14,7 @@ use Rattle.mem_marks.proofs.count_few.Goals.{then-is_marked, else-is_marked}
 pub loop-k-init : goal.loop-k-init
 loop-k-init c =
     let a = c.args in
-    (omega arith, omega arith, zero-add (length (keep (is_marked a.marks.now) (up_from a.lo (a.hi - a.lo)))), omega arith)
-
-pub is_marked-requires : goal.is_marked-requires
-is_marked-requires c = omega arith
-
-pub overflow_add-n : goal.overflow_add-n
-overflow_add-n c = omega arith
-
-pub overflow_add-k : goal.overflow_add-k
-overflow_add-k c = omega arith
-
-pub loop-k-smaller : goal.loop-k-smaller
-loop-k-smaller c = omega arith
+    (zero-add (length (keep (is_marked a.marks.now) (up_from a.lo (a.hi - a.lo)))), omega arith)
 
 pub loop-k-preserved : goal.loop-k-preserved
 loop-k-preserved c =
@@ -36,12 +24,12 @@ loop-k-preserved c =
     let f : ℕ → Bool = is_marked a.marks.now in
     let e = c.is_marked.ensures in
     elim c.if-is_marked.branch [
-      | then-is_marked w ↦ (omega arith, omega arith, omega (arith, kept-one f l.k a.hi l.n t (sym e ∙ w.if-is_marked.true), l.invariant.2), omega arith)
-      | else-is_marked w ↦ (omega arith, omega arith, omega (arith, kept_none f l.k a.hi l.n t (sym e ∙ w.if-is_marked.false), l.invariant.2), omega arith)
+      | then-is_marked w ↦ (omega (arith, kept-one f l.k a.hi l.n t (sym e ∙ w.if-is_marked.true), l.invariant.0), omega arith)
+      | else-is_marked w ↦ (omega (arith, kept_none f l.k a.hi l.n t (sym e ∙ w.if-is_marked.false), l.invariant.0), omega arith)
     ]
 
 pub returns : goal.returns
 returns c =
     let a = c.args in
     let l = c.loop-k in
-    (sym (kept-ended (is_marked a.marks.now) l.k a.hi l.n (omega arith)) ∙ l.invariant.2, omega arith)
+    (sym (kept-ended (is_marked a.marks.now) l.k a.hi l.n (omega arith)) ∙ l.invariant.0, omega arith)

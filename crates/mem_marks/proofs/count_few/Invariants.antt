@@ -7,8 +7,4 @@ use mathlib.Core.Path.{◌≡◌}
 use Rattle.mem_marks.proofs.count_few.Given as goal
 
 abbrev pub invariant-loop-k : goal.invariant-loop-k
-invariant-loop-k l = (l.lo ≤ l.k) × (l.k ≤ l.hi)
-    × (l.n + length (keep (is_marked l.marks) (up_from l.k (l.hi - l.k))) ≡ length (keep (is_marked l.marks) (up_from l.lo (l.hi - l.lo)))) × (l.n ≤ l.k - l.lo)
-
-abbrev pub decreases-loop-k : goal.decreases-loop-k
-decreases-loop-k l = l.hi - l.k
+invariant-loop-k l = (l.n + length (keep (is_marked l.marks) (up_from l.k (l.hi - l.k))) ≡ length (keep (is_marked l.marks) (up_from l.lo (l.hi - l.lo)))) × (l.n ≤ l.k - l.lo)

@@ -2,16 +2,11 @@
 use Prim.Native.Nat.{ℕ, ◌-◌, ◌≤◌, ◌<◌}
 use Rattle.mem_marks.specs.Marks.{is_marked, is_pointed}
 use Rattle.mem_tables.specs.Tables.{count_places}
-use lib.ListN.{length}
 use mathlib.Core.Bool.{◌||◌}
 use mathlib.Core.Path.{◌≡◌}
 use Rattle.mem_marks.proofs.mark_places.Given as goal
 
 abbrev pub invariant-loop-a : goal.invariant-loop-a
 invariant-loop-a l =
-    (l.a ≤ l.n) × (length l.marks ≡ length l.initial.marks)
-    × ((q : ℕ) → l.first ≤ q → q < l.end → is_marked l.marks (q - l.first) ≡ (is_pointed l.addresses l.a q || is_marked l.initial.marks (q - l.first)))
+    ((q : ℕ) → l.first ≤ q → q < l.end → is_marked l.marks (q - l.first) ≡ (is_pointed l.addresses l.a q || is_marked l.initial.marks (q - l.first)))
     × (l.k ≡ count_places l.addresses l.a l.end 4294967295) × (l.k ≤ l.a)
-
-abbrev pub decreases-loop-a : goal.decreases-loop-a
-decreases-loop-a l = l.n - l.a

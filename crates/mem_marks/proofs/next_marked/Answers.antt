@@ -16,9 +16,6 @@ go ms k i r j f g x y (no h) = g j (omega arith) y
 pub loop-i-init : goal.loop-i-init
 loop-i-init c = (omega arith, omega arith, λ j x y. absurd (let q : ⊥ = omega arith in q))
 
-pub is_marked-requires : goal.is_marked-requires
-is_marked-requires c = omega arith
-
 pub returns-then-is_marked : goal.returns-then-is_marked
 returns-then-is_marked c =
     let l = c.loop-i in
@@ -28,12 +25,6 @@ pub step_over-i-requires : goal.step_over-i-requires
 step_over-i-requires c =
     let l = c.loop-i in
     (c.loop-i-test.true, omega arith, omega arith, sym c.is_marked.ensures ∙ c.if-is_marked.false)
-
-pub overflow_add-i : goal.overflow_add-i
-overflow_add-i c = omega arith
-
-pub loop-i-smaller : goal.loop-i-smaller
-loop-i-smaller c = omega arith
 
 pub loop-i-preserved : goal.loop-i-preserved
 loop-i-preserved c =

@@ -11,7 +11,7 @@ use Rattle.mem_state.proofs.holds.Goals as goal
 
 pub loop-i-init : goal.loop-i-init
 unfolding holds
-loop-i-init c = let a = c.args in (omega arith, any-start (holds_at (state_of a.bytes.now) a.address.0 a.stamp.0) 64)
+loop-i-init c = let a = c.args in any-start (holds_at (state_of a.bytes.now) a.address.0 a.stamp.0) 64
 
 pub returns-then-is_held : goal.returns-then-is_held
 returns-then-is_held c =
@@ -19,13 +19,7 @@ returns-then-is_held c =
     let l = c.loop-i in
     let st = state_of a.bytes.now in
     let rest = any (holds_at st a.address.0 a.stamp.0) (up_from (8 * (l.i + 1)) (64 - 8 * (l.i + 1))) in
-    sym (eighth_next st a.address.0 a.stamp.0 l.i (omega arith) ∙ ap (λ (x : Bool). x || rest) (sym c.is_held.ensures ∙ c.if-is_held.true)) ∙ l.invariant.1
-
-pub overflow_add-i : goal.overflow_add-i
-overflow_add-i c = omega arith
-
-pub loop-i-smaller : goal.loop-i-smaller
-loop-i-smaller c = omega arith
+    sym (eighth_next st a.address.0 a.stamp.0 l.i (omega arith) ∙ ap (λ (x : Bool). x || rest) (sym c.is_held.ensures ∙ c.if-is_held.true)) ∙ l.invariant
 
 pub loop-i-preserved : goal.loop-i-preserved
 loop-i-preserved c =
@@ -33,11 +27,11 @@ loop-i-preserved c =
     let l = c.loop-i in
     let st = state_of a.bytes.now in
     let rest = any (holds_at st a.address.0 a.stamp.0) (up_from (8 * (l.i + 1)) (64 - 8 * (l.i + 1))) in
-    (omega arith, sym (eighth_next st a.address.0 a.stamp.0 l.i (omega arith) ∙ ap (λ (x : Bool). x || rest) (sym c.is_held.ensures ∙ c.if-is_held.false)) ∙ l.invariant.1)
+    sym (eighth_next st a.address.0 a.stamp.0 l.i (omega arith) ∙ ap (λ (x : Bool). x || rest) (sym c.is_held.ensures ∙ c.if-is_held.false)) ∙ l.invariant
 
 pub returns : goal.returns
 returns c =
     let a = c.args in
     let l = c.loop-i in
     let h = holds_at (state_of a.bytes.now) a.address.0 a.stamp.0 in
-    sym (any-ended h (8 * l.i) 64 (omega (arith, c.loop-i-test.false))) ∙ l.invariant.1
+    sym (any-ended h (8 * l.i) 64 (omega (arith, c.loop-i-test.false))) ∙ l.invariant

@@ -10,35 +10,24 @@ use Rattle.mem_state.proofs.slot_of.Goals as goal
 
 pub loop-i-init : goal.loop-i-init
 unfolding slot_of slots slot_count
-loop-i-init c = let a = c.args in (omega arith, found-start (λ k. not (is_free a.state k) && eqb (stripe_in a.state k) a.stripe) 8)
-
-pub is_stripe-requires : goal.is_stripe-requires
-is_stripe-requires c = omega arith
+loop-i-init c = let a = c.args in found-start (λ k. not (is_free a.state k) && eqb (stripe_in a.state k) a.stripe) 8
 
 pub returns-then-is_stripe : goal.returns-then-is_stripe
 returns-then-is_stripe c =
     let a = c.args in
     let l = c.loop-i in
-    sym (found_hit (λ k. not (is_free a.state k) && eqb (stripe_in a.state k) a.stripe) l.i 8 (omega arith) (sym c.is_stripe.ensures ∙ c.if-is_stripe.true)) ∙ l.invariant.1
-
-pub overflow_add-i : goal.overflow_add-i
-overflow_add-i c = omega arith
-
-pub loop-i-smaller : goal.loop-i-smaller
-loop-i-smaller c = omega arith
+    sym (found_hit (λ k. not (is_free a.state k) && eqb (stripe_in a.state k) a.stripe) l.i 8 (omega arith) (sym c.is_stripe.ensures ∙ c.if-is_stripe.true)) ∙ l.invariant
 
 pub loop-i-preserved : goal.loop-i-preserved
 loop-i-preserved c =
     let a = c.args in
-    let l = c.loop-i in (
-      omega arith,
-      sym (found_miss (λ k. not (is_free a.state k) && eqb (stripe_in a.state k) a.stripe) l.i 8 (omega arith) (sym c.is_stripe.ensures ∙ c.if-is_stripe.false))
-          ∙ l.invariant.1,
-    )
+    let l = c.loop-i in
+    sym (found_miss (λ k. not (is_free a.state k) && eqb (stripe_in a.state k) a.stripe) l.i 8 (omega arith) (sym c.is_stripe.ensures ∙ c.if-is_stripe.false))
+    ∙ l.invariant
 
 pub returns : goal.returns
 returns c =
     let a = c.args in
     let l = c.loop-i in
     let e : l.i ≡ 8 = omega arith in
-    sym e ∙ sym (found_end (λ k. not (is_free a.state k) && eqb (stripe_in a.state k) a.stripe) l.i 8 (omega arith)) ∙ l.invariant.1
+    sym e ∙ sym (found_end (λ k. not (is_free a.state k) && eqb (stripe_in a.state k) a.stripe) l.i 8 (omega arith)) ∙ l.invariant

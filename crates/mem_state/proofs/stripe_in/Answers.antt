@@ -1,7 +1,8 @@
--- `stripe_in`: `whole` is the number at index i, which the definition takes. Assumes nothing.
+-- `stripe_in`: the number at index i is what the definition takes. Assumes nothing.
+use Rattle.std.proofs.Common.{refl}
 use Rattle.spec.specs.Memory.{stripe_in}
 use Rattle.mem_state.proofs.stripe_in.Goals as goal
 
 pub returns : goal.returns
 unfolding stripe_in
-returns c = c.whole.ensures
+returns c = refl

@@ -6,29 +6,12 @@ use Rattle.mem_tables.specs.Tables.{is_within, count_places, bit_le, count_no_pl
 use Rattle.mem_tables.proofs.count_places.Goals as goal
 
 pub loop-a-init : goal.loop-a-init
-loop-a-init c =
-    let args = c.args in
-    (omega arith, count_no_places args.table.now args.lo.0 args.hi.0, omega arith)
-
-pub overflow_mul-a : goal.overflow_mul-a
-overflow_mul-a c = omega arith
-
-pub read_be32-requires : goal.read_be32-requires
-read_be32-requires c = omega arith
-
-pub is_near-k-requires : goal.is_near-k-requires
-is_near-k-requires c = c.span_of-span.ensures
+loop-a-init c = (count_no_places c.args.table.now c.args.lo.0 c.args.hi.0, omega arith)
 
 pub overflow_add-k : goal.overflow_add-k
 overflow_add-k c =
     let args = c.args in
     omega (arith, c.is_near-k.ensures, bit_le (is_within args.lo.0 args.hi.0 c.read_be32.result))
-
-pub overflow_add-a : goal.overflow_add-a
-overflow_add-a c = omega arith
-
-pub loop-a-smaller : goal.loop-a-smaller
-loop-a-smaller c = omega arith
 
 pub loop-a-preserved : goal.loop-a-preserved
 unfolding place_at_of
@@ -37,12 +20,12 @@ loop-a-preserved c =
     let l = c.loop-a in
     let t = s.table.now in
     let e : l.k + c.is_near-k.result ≡ count_places t (l.a + 1) s.lo.0 s.hi.0 =
-    ap₂ ◌+◌ l.invariant.1 (c.is_near-k.ensures ∙ ap (λ (x : ℕ). bool_byte (is_within s.lo.0 s.hi.0 x)) c.read_be32.ensures) ∙ count-one t l.a s.lo.0 s.hi.0 in
-    (omega arith, e, omega (arith, count-le t (l.a + 1) s.lo.0 s.hi.0))
+    ap₂ ◌+◌ l.invariant.0 (c.is_near-k.ensures ∙ ap (λ (x : ℕ). bool_byte (is_within s.lo.0 s.hi.0 x)) c.read_be32.ensures) ∙ count-one t l.a s.lo.0 s.hi.0 in
+    (e, omega (arith, count-le t (l.a + 1) s.lo.0 s.hi.0))
 
 pub returns : goal.returns
 returns c =
     let s = c.args in
     let l = c.loop-a in
     let e : l.a ≡ s.n = omega arith in
-    l.invariant.1 ∙ ap (λ (x : ℕ). count_places s.table.now x s.lo.0 s.hi.0) e
+    l.invariant.0 ∙ ap (λ (x : ℕ). count_places s.table.now x s.lo.0 s.hi.0) e

@@ -23,12 +23,6 @@ pub add_stamp-t-requires : goal.add_stamp-t-requires
 add_stamp-t-requires c =
     let q = c.requires in record { ground = q.ground; drive_lt_n = (c.loop-d-test.true, q.stripe_counts.0, q.stripe_counts.1) }
 
-pub overflow_add-d : goal.overflow_add-d
-overflow_add-d c = omega arith
-
-pub loop-d-smaller : goal.loop-d-smaller
-loop-d-smaller c = omega arith
-
 pub loop-d-preserved : goal.loop-d-preserved
 loop-d-preserved c =
     let a = c.args in

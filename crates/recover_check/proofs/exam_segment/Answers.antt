@@ -1,4 +1,5 @@
 -- `exam_segment`: where none remains there is no fault and nothing to add; a fault in front or in the survey names z; else the tally is added, and fits. Assumes nothing.
+use Rattle.disk_drives.specs.Viewed.{viewed}
 use mathlib.Core.Path.{◌≡◌, sym, ap, ◌∙◌, subst}
 use mathlib.Core.Bool.{Bool, true, false, ◌||◌}
 use Prim.Native.Nat.{◌+◌}
@@ -20,15 +21,12 @@ use Rattle.recover_check.specs.Faults.{flag_remains, row_is_seg, row_there, flag
 use Rattle.recover_check.proofs.exam_segment.Goals as goal
 use Rattle.recover_check.proofs.exam_segment.Goals.{After-row-segment, After-segment_fault, After-survey-t}
 
-pub bounds-kept-z : goal.bounds-kept-z
-bounds-kept-z c = omega (arith, c.requires.arrays.keeps.0, c.requires.z_lt_z.0)
-
 pub returns-then-not-kept-z : goal.returns-then-not-kept-z
 returns-then-not-kept-z c =
     let a = c.args in
-    let p = a.p in
+    let p = a.drives.now.p in
     let m = c.requires.z_lt_z in
-    let v = view_of p a.offline.now a.image.now a.pointers.now in
+    let v = view_of p a.drives.now.offline.now a.drives.now.image.now a.drives.now.pointers.now in
     let f = sym (c.requires.arrays.keeps.1 a.z m.0)
     ∙ not-true (get_or a.kept.now a.z false) c.if-not-kept-z.true-raw in
     record { zone_value = (λ q. absurd (not_both (faulty p v a.gone a.z) q (faulty_gone p v a.gone a.z f))); exam_says = λ _. seen_gone p v a.gone a.z a.e m.2 f }
@@ -36,27 +34,24 @@ returns-then-not-kept-z c =
 pub row-segment-requires : goal.row-segment-requires
 row-segment-requires c =
     let h = c.requires.z_lt_z.0 in
-    (omega (arith, c.requires.arrays.zones.0, h), omega (arith, h, (ranged c.args.p c.requires.p_value).zones_high))
-
-pub offset_bounds-serials-z : goal.offset_bounds-serials-z
-offset_bounds-serials-z c = omega (arith, c.requires.z_lt_z.0, (ranged c.args.p c.requires.p_value).zones_high)
+    (omega (arith, c.requires.arrays.zones.0, h), omega (arith, h, (ranged c.args.drives.now.p c.args.drives.now.sound).zones_high))
 
 pub bounds-serials-z : goal.bounds-serials-z
 bounds-serials-z c =
     omega (arith, c.requires.arrays.serials.0, c.requires.z_lt_z.0)
 
 -- its zones are zones
-low : (c : After-row-segment) → (let a = c.args in ZonesLow a.p a.gone c.row-segment.result)
+low : (c : After-row-segment) → (let a = c.args in ZonesLow a.drives.now.p a.gone c.row-segment.result)
 low c =
     let a = c.args in
-    let v = view_of a.p a.offline.now a.image.now a.pointers.now in
+    let v = viewed a.drives.now in
     let q = c.requires.arrays in
     let k = not-false (get_or a.kept.now a.z false) c.if-not-kept-z.false-raw in
-    remaining-low a.p v a.gone q.here c.row-segment.result
-    (row_there a.p v a.gone a.kept.now a.serials.now a.rows.now a.repeats.now a.counts.now q a.z c.requires.z_lt_z.0 k c.row-segment.result c.row-segment.ensures)
+    remaining-low a.drives.now.p v a.gone q.here c.row-segment.result
+    (row_there a.drives.now.p v a.gone a.kept.now a.serials.now a.rows.now a.repeats.now a.counts.now q a.z c.requires.z_lt_z.0 k c.row-segment.result c.row-segment.ensures)
 
 pub is_sealed-full-requires : goal.is_sealed-full-requires
-is_sealed-full-requires c = record { p_value = c.requires.p_value; pointers_len = (c.requires.whole.0.pointers_long, low (goal.at.is_sealed-full-requires c).After-row-segment) }
+is_sealed-full-requires c = record { p_value = c.args.drives.now.sound; pointers_len = (c.args.drives.now.whole.pointers_long, low (goal.at.is_sealed-full-requires c).After-row-segment) }
 
 pub bounds-repeats-z : goal.bounds-repeats-z
 bounds-repeats-z c =
@@ -65,17 +60,15 @@ bounds-repeats-z c =
 pub segment_fault-requires : goal.segment_fault-requires
 segment_fault-requires c =
     let a = c.args in
-    let p = a.p in
-    let v = view_of p a.offline.now a.image.now a.pointers.now in
-    let w = c.requires.whole in
+    let p = a.drives.now.p in
+    let v = view_of p a.drives.now.offline.now a.drives.now.image.now a.drives.now.pointers.now in
     let q = c.requires.arrays in
     let m = c.requires.z_lt_z in
     let g = c.row-segment.result in
     let i = c.row-segment.ensures in
     let k = not-false (get_or a.kept.now a.z false) c.if-not-kept-z.false-raw in
-    let s = c.is_sealed-full.ensures a.offline.now a.image.now w.0.image_long in record {
-      p_value = c.requires.p_value;
-      whole = (w.0, w.1, q.here);
+    let s = c.is_sealed-full.ensures a.drives.now.offline.now a.drives.now.image.now c.args.drives.now.whole.image_long in record {
+      here = q.here;
       name_counts = (
         q.named,
         row_there p v a.gone a.kept.now a.serials.now a.rows.now a.repeats.now a.counts.now q a.z m.0 k g i,
@@ -88,13 +81,13 @@ segment_fault-requires c =
 -- whether it is faulty
 fault : (c : After-segment_fault)
     → (let a = c.args in
-    let v = view_of a.p a.offline.now a.image.now a.pointers.now in
-    let x = segment_of a.p v a.gone c.row-segment.result in
-    faulty a.p v a.gone a.z ≡ (c.segment_fault.result || (stripe_fault a.p a.gone x || address_fault a.p a.gone x)))
+    let v = viewed a.drives.now in
+    let x = segment_of a.drives.now.p v a.gone c.row-segment.result in
+    faulty a.drives.now.p v a.gone a.z ≡ (c.segment_fault.result || (stripe_fault a.drives.now.p a.gone x || address_fault a.drives.now.p a.gone x)))
 fault c =
     let a = c.args in
-    let p = a.p in
-    let v = view_of p a.offline.now a.image.now a.pointers.now in
+    let p = a.drives.now.p in
+    let v = view_of p a.drives.now.offline.now a.drives.now.image.now a.drives.now.pointers.now in
     let q = c.requires.arrays in
     let m = c.requires.z_lt_z in
     let g = c.row-segment.result in
@@ -107,24 +100,24 @@ fault c =
 pub returns-then-segment_fault : goal.returns-then-segment_fault
 returns-then-segment_fault c =
     let a = c.args in
-    let v = view_of a.p a.offline.now a.image.now a.pointers.now in
-    let x = segment_of a.p v a.gone c.row-segment.result in
-    let z : faulty a.p v a.gone a.z ≡ true =
+    let v = viewed a.drives.now in
+    let x = segment_of a.drives.now.p v a.gone c.row-segment.result in
+    let z : faulty a.drives.now.p v a.gone a.z ≡ true =
     fault (goal.at.returns-then-segment_fault c).After-segment_fault
-    ∙ ap (λ (o : Bool). o || (stripe_fault a.p a.gone x || address_fault a.p a.gone x)) c.if-segment_fault.true in
-    record { zone_value = (λ _. c.exam_bad.ensures); exam_says = λ q. absurd (not_both (faulty a.p v a.gone a.z) z q) }
+    ∙ ap (λ (o : Bool). o || (stripe_fault a.drives.now.p a.gone x || address_fault a.drives.now.p a.gone x)) c.if-segment_fault.true in
+    record { zone_value = (λ _. c.exam_bad.ensures); exam_says = λ q. absurd (not_both (faulty a.drives.now.p v a.gone a.z) z q) }
 
 pub survey-t-requires : goal.survey-t-requires
-survey-t-requires c = record { p_value = c.requires.p_value; whole = c.requires.whole.0; at_len = (c.requires.z_lt_z.3, low (goal.at.survey-t-requires c).After-row-segment) }
+survey-t-requires c = record { p_value = c.args.drives.now.sound; whole = c.args.drives.now.whole; at_len = (c.requires.z_lt_z.3, low (goal.at.survey-t-requires c).After-row-segment) }
 
 -- what the survey says of it
 surveyed : (c : After-survey-t)
     → (let a = c.args in
-    let v = view_of a.p a.offline.now a.image.now a.pointers.now in
-    Surveyed a.p a.gone (segment_of a.p v a.gone c.row-segment.result) c.survey-t.result)
+    let v = viewed a.drives.now in
+    Surveyed a.drives.now.p a.gone (segment_of a.drives.now.p v a.gone c.row-segment.result) c.survey-t.result)
 surveyed c =
     let a = c.args in
-    c.survey-t.ensures a.offline.now (c.is_sealed-full.ensures a.offline.now a.image.now c.requires.whole.0.image_long)
+    c.survey-t.ensures a.drives.now.offline.now (c.is_sealed-full.ensures a.drives.now.offline.now a.drives.now.image.now c.args.drives.now.whole.image_long)
 
 pub shape_of-at-then-t : goal.shape_of-at-then-t
 shape_of-at-then-t c = c.survey-t.auto.at
@@ -134,30 +127,30 @@ returns-then-t c =
     let row = c.row-segment in
     let if2 = c.if-segment_fault in
     let a = c.args in
-    let v = view_of a.p a.offline.now a.image.now a.pointers.now in
-    let x = segment_of a.p v a.gone row.result in
+    let v = viewed a.drives.now in
+    let x = segment_of a.drives.now.p v a.gone row.result in
     let u = surveyed (goal.at.returns-then-t c).After-survey-t in
-    let z : faulty a.p v a.gone a.z ≡ true =
+    let z : faulty a.drives.now.p v a.gone a.z ≡ true =
     fault (goal.at.returns-then-t c).After-segment_fault
-    ∙ ap (λ (o : Bool). o || (stripe_fault a.p a.gone x || address_fault a.p a.gone x)) if2.false ∙ sym u.bad_is
-    ∙ c.if-t.true in record { zone_value = (λ _. c.exam_bad-then-t.ensures); exam_says = λ q. absurd (not_both (faulty a.p v a.gone a.z) z q) }
+    ∙ ap (λ (o : Bool). o || (stripe_fault a.drives.now.p a.gone x || address_fault a.drives.now.p a.gone x)) if2.false ∙ sym u.bad_is
+    ∙ c.if-t.true in record { zone_value = (λ _. c.exam_bad-then-t.ensures); exam_says = λ q. absurd (not_both (faulty a.drives.now.p v a.gone a.z) z q) }
 
 pub exam_good-requires : goal.exam_good-requires
 exam_good-requires c =
     let a = c.args in
-    let p = a.p in
-    let v = view_of p a.offline.now a.image.now a.pointers.now in
+    let p = a.drives.now.p in
+    let v = view_of p a.drives.now.offline.now a.drives.now.image.now a.drives.now.pointers.now in
     let m = c.requires.z_lt_z in
     let x = segment_of p v a.gone c.row-segment.result in
     let u = surveyed (goal.at.exam_good-requires c).After-survey-t in
     let d = c.if-t.false in
     let w = seen_fits p v a.gone a.z a.e m.2 in
-    let r = (ranged p c.requires.p_value).stripes_high in record {
+    let r = (ranged p c.args.drives.now.sound).stripes_high in record {
       loose_bound = (
-        loose_sum_fits p a.z a.e.loose c.requires.p_value m.0 w.0,
-        loose_sum_fits p a.z a.e.counted c.requires.p_value m.0 w.1,
-        loose_sum_fits p a.z a.e.top c.requires.p_value m.0 w.2,
-        loose_sum_fits p a.z a.e.part c.requires.p_value m.0 w.3,
+        loose_sum_fits p a.z a.e.loose c.args.drives.now.sound m.0 w.0,
+        loose_sum_fits p a.z a.e.counted c.args.drives.now.sound m.0 w.1,
+        loose_sum_fits p a.z a.e.top c.args.drives.now.sound m.0 w.2,
+        loose_sum_fits p a.z a.e.part c.args.drives.now.sound m.0 w.3,
       );
       loose_bound_2 = (
         omega (arith, u.loose_is d, uncounted_most p a.gone x, r),
@@ -177,9 +170,9 @@ returns c =
     let if2 = c.if-segment_fault in
     let survey = c.survey-t in
     let a = c.args in
-    let p = a.p in
+    let p = a.drives.now.p in
     let gone = a.gone in
-    let v = view_of p a.offline.now a.image.now a.pointers.now in
+    let v = view_of p a.drives.now.offline.now a.drives.now.image.now a.drives.now.pointers.now in
     let q = c.requires.arrays in
     let m = c.requires.z_lt_z in
     let g = row.result in
@@ -189,7 +182,7 @@ returns c =
     let k = not-false (get_or a.kept.now a.z false) if1.false-raw in
     let r = flag_remains p v gone a.kept.now a.serials.now a.rows.now a.repeats.now a.counts.now q a.z m.0 k in
     let i = row_is_seg p v gone a.kept.now a.serials.now a.rows.now a.repeats.now a.counts.now q a.z m.0 k g row.ensures in
-    let s = is-sealed.ensures a.offline.now a.image.now c.requires.whole.0.image_long ∙ ap (sealed_in p v gone) i in
+    let s = is-sealed.ensures a.drives.now.offline.now a.drives.now.image.now c.args.drives.now.whole.image_long ∙ ap (sealed_in p v gone) i in
     let z : faulty p v gone a.z ≡ false =
     fault (goal.at.returns c).After-segment_fault ∙ ap (λ (o : Bool). o || (stripe_fault p gone x || address_fault p gone x)) if2.false ∙ sym u.bad_is ∙ d in record {
       zone_value = (λ y. absurd (not_both (faulty p v gone a.z) y z));

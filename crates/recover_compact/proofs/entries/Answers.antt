@@ -31,9 +31,6 @@ base_at-base-requires c =
     let q = c.requires in
     let l = c.loop-o in record { p_value = q.p_value; base_le_o = (l.invariant.1, omega (arith, c.loop-o-test.true, q.image_len.3), l.invariant.2) }
 
-pub overflow_cast-r : goal.overflow_cast-r
-overflow_cast-r c = omega arith
-
 pub entry_near-requires : goal.entry_near-requires
 entry_near-requires c =
     let pre = c.requires in record { p_value = pre.p_value; g_value = c.base_at-base.ensures.1 }
@@ -49,12 +46,6 @@ bounds-compact-row c =
     let loop-test = c.loop-o-test in
     let pre = c.requires in
     omega (arith, pre, loop-test)
-
-pub overflow_add-o : goal.overflow_add-o
-overflow_add-o c = omega arith
-
-pub loop-o-smaller : goal.loop-o-smaller
-loop-o-smaller c = omega arith
 
 pub loop-o-preserved : goal.loop-o-preserved
 loop-o-preserved c =

@@ -28,12 +28,6 @@ row_any-requires c =
           (loop.invariant.1 ∙ c.requires.compact_len.0, c.loop-d-test.true, c.requires.compact_len.1);
     }
 
-pub overflow_add-d : goal.overflow_add-d
-overflow_add-d c = omega arith
-
-pub loop-d-smaller : goal.loop-d-smaller
-loop-d-smaller c = omega arith
-
 pub loop-d-preserved : goal.loop-d-preserved
 loop-d-preserved c =
     let x = c.row_any in

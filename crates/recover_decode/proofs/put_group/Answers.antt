@@ -7,6 +7,7 @@ use Rattle.spec.specs.Drives.{mk_disk}
 use Rattle.law_basic.specs.Geometry.{ranged}
 use Rattle.recover_groups.specs.Groups.{group_len, GroupReads}
 use Rattle.recover_decode.specs.Group.{stripes_start, stripes_done, stripes_fit, stripes_read, stripes_cut, stripes_turn}
+use Rattle.disk_zones.specs.Made.{storing_exit}
 use Rattle.recover_decode.proofs.put_group.Goals as goal
 
 pub index_group-requires : goal.index_group-requires
@@ -24,8 +25,8 @@ loop-k-init c =
     let q = c.requires in
     λ off. stripes_start a.p off a.w a.drive a.count (mk_disk a.image.now a.pointers.now) q.whole (q.by_index_3 off)
 
-pub put_if-made-requires : goal.put_if-made-requires
-put_if-made-requires c =
+pub put_if-requires : goal.put_if-requires
+put_if-requires c =
     let a = c.args in
     let q = c.requires in
     let loop-test = c.loop-k-test in
@@ -53,56 +54,50 @@ put_if-made-requires c =
           a.p r off a.w a.drive a.count d q.lacks h.1 l.k l.left x (l.invariant off) k;
     }
 
-pub shape_of-image-then-made : goal.shape_of-image-then-made
-shape_of-image-then-made c =
-    let put_if = c.put_if-made in
+pub shape_of-image-in_err-left : goal.shape_of-image-in_err-left
+shape_of-image-in_err-left c =
+    let put_if = c.put_if in
     let loop = c.loop-k in
     let pre = c.requires in
     put_if.auto.image ∙ (loop.invariant []).moving.going.whole.image_long ∙ sym pre.whole.image_long
 
-pub shape_of-pointers-then-made : goal.shape_of-pointers-then-made
-shape_of-pointers-then-made c =
-    let put_if = c.put_if-made in
+pub shape_of-pointers-in_err-left : goal.shape_of-pointers-in_err-left
+shape_of-pointers-in_err-left c =
+    let put_if = c.put_if in
     let loop = c.loop-k in
     let pre = c.requires in
     put_if.auto.pointers ∙ (loop.invariant []).moving.going.whole.pointers_long ∙ sym pre.whole.pointers_long
 
-pub shape_of-at-then-made : goal.shape_of-at-then-made
-shape_of-at-then-made c =
+pub shape_of-at-in_err-left : goal.shape_of-at-in_err-left
+shape_of-at-in_err-left c =
     let index-group = c.index_group in
     index-group.auto.at
 
-pub returns-then-made : goal.returns-then-made
-returns-then-made c =
+pub returns-in_err-left : goal.returns-in_err-left
+returns-in_err-left c =
     let a = c.args in
     let q = c.requires in
     let l = c.loop-k in
-    let put_if = c.put_if-made in
+    let put_if = c.put_if in
     let loop-test = c.loop-k-test in
     let group-len = c.group_len-len in
     let k : l.k < group_len a.p a.w.base = omega (arith, loop-test.true, group-len.ensures.0) in
-    λ off. stripes_cut a.p (ranged a.p q.p_value) off a.w a.drive a.count (mk_disk a.image.now a.pointers.now) q.lacks q.at_len.1
+    λ off. storing_exit c.from_residual.result c.from_residual.ensures.0 (stripes_cut a.p (ranged a.p q.p_value) off a.w a.drive a.count (mk_disk a.image.now a.pointers.now) q.lacks q.at_len.1
     l.k l.left (mk_disk l.image l.pointers) (l.invariant off) k
-    put_if.result (mk_disk put_if.new.image put_if.new.pointers) (put_if.ensures off) c.if-made.true
-
-pub overflow_add-k : goal.overflow_add-k
-overflow_add-k c = omega arith
-
-pub loop-k-smaller : goal.loop-k-smaller
-loop-k-smaller c = omega arith
+    (mk_disk put_if.new.image put_if.new.pointers) (c.in_err-left.ensures off))
 
 pub loop-k-preserved : goal.loop-k-preserved
 loop-k-preserved c =
     let a = c.args in
     let q = c.requires in
     let l = c.loop-k in
-    let put_if = c.put_if-made in
+    let put_if = c.put_if in
     let loop-test = c.loop-k-test in
     let group-len = c.group_len-len in
     let k : l.k < group_len a.p a.w.base = omega (arith, loop-test.true, group-len.ensures.0) in
     λ off. stripes_turn a.p (ranged a.p q.p_value) off a.w a.drive a.count (mk_disk a.image.now a.pointers.now) q.lacks
     q.at_len.1 l.k l.left (mk_disk l.image l.pointers) (l.invariant off) k
-    put_if.result (mk_disk put_if.new.image put_if.new.pointers) (put_if.ensures off) c.if-made.false
+    c.in_ok-left.left (mk_disk put_if.new.image put_if.new.pointers) (c.in_ok-left.ensures off)
 
 pub shape_of-image : goal.shape_of-image
 shape_of-image c =

@@ -1,7 +1,7 @@
 -- `put_if`: a stripe that does not count gives no store and the count stays; one that counts gives its lost chunk, for which there is room. Assumes nothing.
 use mathlib.Core.Path.{◌≡◌, sym, ◌∙◌, subst}
 use mathlib.Core.List.{List, []}
-use mathlib.Core.Bool.{true, false}
+use mathlib.Core.Bool.{true}
 use Prim.Native.Nat.{ℕ, ◌+◌, ◌<◌}
 use borrow.Author.Tests.{not-true, not-false}
 use native.Mathlib.Omega.{arith}
@@ -13,6 +13,7 @@ use Rattle.recover_groups.specs.Bases.{group_len_le}
 use Rattle.recover_groups.specs.Groups.{segment_in}
 use Rattle.recover_reset.specs.Lost.{lost_hit, lost_miss}
 use Rattle.recover_decode.specs.Group.{lost_room}
+use Rattle.std.specs.Prelude.{Ok}
 use Rattle.recover_decode.proofs.put_if.Goals as goal
 use Rattle.recover_decode.proofs.put_if.Goals.{After-put_lost-arg-2-1, After-shared_slice_known-1}
 
@@ -35,7 +36,7 @@ returns-then-not-counts c =
     λ off.
     let g = segment_in a.p off a.image.now a.pointers.now a.w in
     let e = c.counts.ensures g a.w.base (q.by_index off).indexed q.at_len.3 in
-    subst (λ (l : List Store). Storing a.p a.count l k (record { left = a.count; cut = false }) k)
+    subst (λ (l : List Store). Storing a.p a.count l k (Ok a.count) k)
     (sym (lost_miss a.p a.w.gone a.drive g (a.w.base + a.k) (sym e ∙ not-true c.counts.result c.if-not-counts.true-raw))) (storing_none a.p a.count k)
 
 -- the stripe counts

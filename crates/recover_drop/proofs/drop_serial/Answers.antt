@@ -5,8 +5,9 @@ use native.Mathlib.Omega.{arith}
 use Rattle.spec.specs.Params.{offline_len}
 use Rattle.law_basic.specs.Geometry.{ranged}
 use Rattle.recover_drop.specs.Dropped.{serial_start, serial_done, serial_cut, serial_turn}
+use Rattle.disk_zones.specs.Made.{storing_exit}
 use Rattle.recover_drop.proofs.drop_serial.Goals as goal
-use Rattle.recover_drop.proofs.drop_serial.Goals.{After-drop_zone-made}
+use Rattle.recover_drop.proofs.drop_serial.Goals.{After-drop_zone}
 
 pub offline_len-n-requires : goal.offline_len-n-requires
 offline_len-n-requires c = c.requires.p_value
@@ -17,9 +18,9 @@ loop-i-init c =
     let q = c.requires in
     serial_start a.p (ranged a.p q.p_value) a.offline.now a.image.now q.whole.0.image_long a.taken.now a.count a.pointers.now q.whole.0.pointers_long a.serial.0
 
-pub drop_zone-made-requires : goal.drop_zone-made-requires
+pub drop_zone-requires : goal.drop_zone-requires
 unfolding offline_len
-drop_zone-made-requires c =
+drop_zone-requires c =
     let q = c.requires in record {
       p_value = q.p_value;
       whole = (
@@ -30,40 +31,35 @@ drop_zone-made-requires c =
       );
     }
 
-pub shape_of-pointers-then-made : goal.shape_of-pointers-then-made
-shape_of-pointers-then-made c = c.drop_zone-made.auto.pointers ∙ c.loop-i.invariant.long ∙ sym
+pub shape_of-pointers-in_err-left : goal.shape_of-pointers-in_err-left
+shape_of-pointers-in_err-left c = c.drop_zone.auto.pointers ∙ c.loop-i.invariant.long ∙ sym
     c.requires.whole.0.pointers_long
 
 -- the stores of a turn
-abbrev below! : (c : After-drop_zone-made)
+abbrev below! : (c : After-drop_zone)
     → c.loop-i.i < c.args.p.N
     * c.args.p.Z
 unfolding offline_len
 below! c = omega (arith, c.loop-i-test.true, c.offline_len-n.ensures.0)
 
-pub returns-then-made : goal.returns-then-made
-returns-then-made c =
+pub returns-in_err-left : goal.returns-in_err-left
+returns-in_err-left c =
     let a = c.args in
     let q = c.requires in
     let l = c.loop-i in
-    let m = c.drop_zone-made in
-    serial_cut a.p (ranged a.p q.p_value) a.offline.now a.image.now q.whole.0.image_long a.taken.now a.count a.pointers.now q.whole.0.pointers_long a.serial.0
-    l.i l.left l.pointers l.invariant (below! (goal.at.returns-then-made c).After-drop_zone-made) m.result m.new.pointers m.ensures c.if-made.true
-
-pub overflow_add-i : goal.overflow_add-i
-overflow_add-i c = omega arith
-
-pub loop-i-smaller : goal.loop-i-smaller
-loop-i-smaller c = omega arith
+    let m = c.drop_zone in
+    storing_exit c.from_residual.result c.from_residual.ensures.0
+    (serial_cut a.p (ranged a.p q.p_value) a.offline.now a.image.now q.whole.0.image_long a.taken.now a.count a.pointers.now q.whole.0.pointers_long a.serial.0
+    l.i l.left l.pointers l.invariant (below! (goal.at.returns-in_err-left c).After-drop_zone) m.new.pointers c.in_err-left.ensures)
 
 pub loop-i-preserved : goal.loop-i-preserved
 loop-i-preserved c =
     let a = c.args in
     let q = c.requires in
     let l = c.loop-i in
-    let m = c.drop_zone-made in
+    let m = c.drop_zone in
     serial_turn a.p (ranged a.p q.p_value) a.offline.now a.image.now q.whole.0.image_long a.taken.now a.count a.pointers.now q.whole.0.pointers_long a.serial.0
-    l.i l.left l.pointers l.invariant (below! (goal.at.loop-i-preserved c).After-drop_zone-made) m.result m.new.pointers m.ensures m.auto.pointers c.if-made.false
+    l.i l.left l.pointers l.invariant (below! (goal.at.loop-i-preserved c).After-drop_zone) c.in_ok-left.left m.new.pointers c.in_ok-left.ensures m.auto.pointers
 
 pub shape_of-pointers : goal.shape_of-pointers
 shape_of-pointers c = c.loop-i.invariant.long ∙ sym c.requires.whole.0.pointers_long

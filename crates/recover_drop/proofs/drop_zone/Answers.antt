@@ -1,7 +1,7 @@
 -- `drop_zone`: no stores where the zone is taken, not used or bears another serial; else its reset. Assumes nothing.
+use Rattle.std.specs.Prelude.{Ok}
 use mathlib.Core.Path.{sym, ◌∙◌, subst}
 use mathlib.Core.List.{List}
-use mathlib.Core.Bool.{false}
 use native.Mathlib.Omega.{arith}
 use borrow.Author.Tests.{not-true, not-false}
 use Rattle.spec.specs.Drives.{Store, mk_disk, view_of}
@@ -19,7 +19,7 @@ returns-then-not-is_untaken c =
     let a = c.args in
     let q = c.requires in
     let k = mk_disk a.image.now a.pointers.now in
-    subst (λ (l : List Store). Storing a.p a.count l k (record { left = a.count; cut = false }) k)
+    subst (λ (l : List Store). Storing a.p a.count l k (Ok a.count) k)
     (sym (one_none a.p (view_of a.p a.offline.now a.image.now a.pointers.now) a.taken.now a.serial.0 a.i
     (sym (c.is_untaken.ensures a.image.now q.whole.0.image_long) ∙ not-true c.is_untaken.result c.if-not-is_untaken.true-raw))) (storing_none a.p a.count k)
 
@@ -33,7 +33,7 @@ returns-then-s-serial c =
     let q = c.requires in
     let k = mk_disk a.image.now a.pointers.now in
     let e = c.serial_no-s.ensures a.offline.now a.pointers.now q.whole.0.pointers_long in
-    subst (λ (l : List Store). Storing a.p a.count l k (record { left = a.count; cut = false }) k)
+    subst (λ (l : List Store). Storing a.p a.count l k (Ok a.count) k)
     (sym (dropped_one-other a.p (view_of a.p a.offline.now a.image.now a.pointers.now) a.taken.now a.serial.0 a.i (λ x. c.if-s-serial.true (e ∙ x))))
     (storing_none a.p a.count k)
 

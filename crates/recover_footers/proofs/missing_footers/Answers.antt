@@ -6,6 +6,7 @@ use mathlib.Core.List.{[]}
 use mathlib.Core.Path.{refl, ◌∙◌}
 use native.Mathlib.Omega.{arith}
 use Rattle.law_basic.specs.Segs.{low_here}
+use Rattle.disk_zones.specs.Made.{storing_exit}
 use Rattle.recover_footers.proofs.missing_footers.Goals as goal
 
 pub loop-d-init : goal.loop-d-init
@@ -18,11 +19,11 @@ loop-d-init c =
           (mk_disk args.image.now args.pointers.now) pre.whole (pre.by_index off),
     )
 
-pub zone_on-requires : goal.zone_on-requires
-zone_on-requires c = record { p_value = c.requires.p_value; drive_lt_n = c.loop-d-test.true }
+pub zone_on-zone-requires : goal.zone_on-zone-requires
+zone_on-zone-requires c = record { p_value = c.requires.p_value; drive_lt_n = c.loop-d-test.true }
 
-pub missing_on-made-requires : goal.missing_on-made-requires
-missing_on-made-requires c =
+pub missing_on-requires : goal.missing_on-requires
+missing_on-requires c =
     let a = c.args in
     let l = c.loop-d in
     let if1 = c.loop-d-test in
@@ -31,7 +32,7 @@ missing_on-made-requires c =
     let hz = pre.zones_low.0 in
     let e = feet_pointer a.p (ranged a.p pre.p_value) [] a.count a.segment hz k l.d l.left (mk_disk l.image l.pointers) (l.invariant.2 []) l.d
     (omega arith) if1.true pre.whole in
-    let z = c.zone_on.ensures in
+    let z = c.zone_on-zone.ensures in
     let b = pre.zones_low.1 l.d if1.true in record {
       p_value = pre.p_value;
       whole = (l.invariant.2 []).going.whole;
@@ -39,49 +40,43 @@ missing_on-made-requires c =
           (if1.true, rw z (low_here a.p a.segment l.d hz if1.true), rw (z, e) b.0, rw (z, e) b.1);
     }
 
-pub shape_of-image-then-made : goal.shape_of-image-then-made
-shape_of-image-then-made c =
-    let missing_on_holds = c.missing_on-made in
+pub shape_of-image-in_err-left : goal.shape_of-image-in_err-left
+shape_of-image-in_err-left c =
+    let missing_on_holds = c.missing_on in
     let loop = c.loop-d in
     missing_on_holds.auto.image ∙ loop.invariant.0
 
-pub shape_of-pointers-then-made : goal.shape_of-pointers-then-made
-shape_of-pointers-then-made c =
-    let missing_on_holds = c.missing_on-made in
+pub shape_of-pointers-in_err-left : goal.shape_of-pointers-in_err-left
+shape_of-pointers-in_err-left c =
+    let missing_on_holds = c.missing_on in
     let loop = c.loop-d in
     missing_on_holds.auto.pointers ∙ loop.invariant.1
 
-pub returns-then-made : goal.returns-then-made
-returns-then-made c =
+pub returns-in_err-left : goal.returns-in_err-left
+returns-in_err-left c =
     let a = c.args in
     let l = c.loop-d in
-    let missing_on_holds = c.missing_on-made in
-    let zone_on_holds = c.zone_on in
+    let missing_on_holds = c.missing_on in
+    let zone_on_holds = c.zone_on-zone in
     let if1 = c.loop-d-test in
     let pre = c.requires in
-    λ off. feet_cut a.p (ranged a.p pre.p_value) off a.count a.segment pre.zones_low.0 (mk_disk a.image.now a.pointers.now) l.d l.left
-    (mk_disk l.image l.pointers) (l.invariant.2 off) if1.true zone_on_holds.result zone_on_holds.ensures missing_on_holds.result
-    (mk_disk missing_on_holds.new.image missing_on_holds.new.pointers) (missing_on_holds.ensures off) c.if-made.true
-
-pub overflow_add-d : goal.overflow_add-d
-overflow_add-d c = omega arith
-
-pub loop-d-smaller : goal.loop-d-smaller
-loop-d-smaller c = omega arith
+    λ off. storing_exit c.from_residual.result c.from_residual.ensures.0 (feet_cut a.p (ranged a.p pre.p_value) off a.count a.segment pre.zones_low.0 (mk_disk a.image.now a.pointers.now) l.d l.left
+    (mk_disk l.image l.pointers) (l.invariant.2 off) if1.true zone_on_holds.result zone_on_holds.ensures
+    (mk_disk missing_on_holds.new.image missing_on_holds.new.pointers) (c.in_err-left.ensures off))
 
 pub loop-d-preserved : goal.loop-d-preserved
 loop-d-preserved c =
     let a = c.args in
     let l = c.loop-d in
-    let missing_on_holds = c.missing_on-made in
-    let zone_on_holds = c.zone_on in
+    let missing_on_holds = c.missing_on in
+    let zone_on_holds = c.zone_on-zone in
     let if1 = c.loop-d-test in
     let pre = c.requires in (
       missing_on_holds.auto.image ∙ l.invariant.0,
       missing_on_holds.auto.pointers ∙ l.invariant.1,
       λ off. feet_turn a.p (ranged a.p pre.p_value) off a.count a.segment pre.zones_low.0 (mk_disk a.image.now a.pointers.now) l.d l.left
-          (mk_disk l.image l.pointers) (l.invariant.2 off) if1.true zone_on_holds.result zone_on_holds.ensures missing_on_holds.result
-          (mk_disk missing_on_holds.new.image missing_on_holds.new.pointers) (missing_on_holds.ensures off) c.if-made.false,
+          (mk_disk l.image l.pointers) (l.invariant.2 off) if1.true zone_on_holds.result zone_on_holds.ensures c.in_ok-left.left
+          (mk_disk missing_on_holds.new.image missing_on_holds.new.pointers) (c.in_ok-left.ensures off),
     )
 
 pub shape_of-image : goal.shape_of-image

@@ -24,15 +24,6 @@ has_chunk-requires c =
     let pre = c.requires in
     (pre.at_len.0, omega (arith, c.loop-d-test.true, (ranged args.p pre.p_value).drives_high), pre.at_len.1)
 
-pub overflow_add-n : goal.overflow_add-n
-overflow_add-n c = omega arith
-
-pub overflow_add-d : goal.overflow_add-d
-overflow_add-d c = omega arith
-
-pub loop-d-smaller : goal.loop-d-smaller
-loop-d-smaller c = omega arith
-
 pub loop-d-preserved : goal.loop-d-preserved
 loop-d-preserved c =
     let a = c.args in

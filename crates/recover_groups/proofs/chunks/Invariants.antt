@@ -9,12 +9,9 @@ use Rattle.recover_groups.proofs.chunks.Given as goal
 
 abbrev pub invariant-loop-d : goal.invariant-loop-d
 invariant-loop-d l =
-    (l.d ≤ l.p.N)
+    (l.d ≤ l.fn.p.N)
     × (l.n ≤ l.d)
     × ((g : Segment) (base : ℕ)
-    → Indexed l.p g base l.at
-    → l.k < group_len l.p base
-    → l.n + length (keep (has_chunk g (base + l.k)) (up_from l.d (l.p.N - l.d))) ≡ length (keep (has_chunk g (base + l.k)) (below l.p.N)))
-
-abbrev pub decreases-loop-d : goal.decreases-loop-d
-decreases-loop-d l = l.p.N - l.d
+    → Indexed l.fn.p g base l.at
+    → l.k < group_len l.fn.p base
+    → l.n + length (keep (has_chunk g (base + l.k)) (up_from l.d (l.fn.p.N - l.d))) ≡ length (keep (has_chunk g (base + l.k)) (below l.fn.p.N)))

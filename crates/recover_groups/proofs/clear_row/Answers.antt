@@ -38,12 +38,6 @@ bounds-at-j c =
     let pre = c.requires in
     omega (arith, (ranged args.p pre.p_value).drives_high, (ranged args.p pre.p_value).group_high, pre.at_len.1, c.loop-k-test.true, loop.invariant.1)
 
-pub overflow_add-k : goal.overflow_add-k
-overflow_add-k c = omega arith
-
-pub loop-k-smaller : goal.loop-k-smaller
-loop-k-smaller c = omega arith
-
 pub loop-k-preserved : goal.loop-k-preserved
 loop-k-preserved c =
     let loop = c.loop-k in

@@ -6,7 +6,6 @@ use Prim.Native.Nat.{ℕ, ◌+◌}
 use native.Mathlib.Omega.{arith}
 use Rattle.spec.specs.Drives.{view_of}
 use Rattle.spec.specs.Segments.{recs_on}
-use Rattle.law_views.specs.Pointers.{index_drive}
 use Rattle.recover_groups.specs.Bases.{group_len_le}
 use Rattle.recover_groups.specs.Chunks.{missing_entry}
 use Rattle.recover_groups.specs.Groups.{group_recs, recs_bad, segment_in}

@@ -1,7 +1,7 @@
 -- `index_drive`: the first i records are entered and none is bad; a bad address or number ends it, else record i is entered as i + 1. Assumes nothing.
 use mathlib.Core.Path.{◌≡◌}
 use mathlib.Core.List.{List}
-use Prim.Native.Nat.{ℕ, ◌-◌, ◌≤◌}
+use Prim.Native.Nat.{ℕ, ◌≤◌}
 use lib.ListN.{length}
 use Rattle.spec.specs.Drives.{view_of, sealed_in}
 use Rattle.spec.specs.Segments.{recs_on}
@@ -14,6 +14,3 @@ invariant-loop-i l =
     (l.i ≤ l.n) × (length l.at ≡ 2048) × SameBelow l.drive l.initial.at l.at
     × ((off : List ℕ) → l.w.full ≡ sealed_in l.p (view_of l.p off l.image l.pointers) l.w.gone l.w.seg
     → Entering l.p l.drive l.w.base (group_recs l.p l.w.base (recs_on (segment_in l.p off l.image l.pointers l.w) l.drive)) l.initial.at l.at l.i)
-
-abbrev pub decreases-loop-i : goal.decreases-loop-i
-decreases-loop-i l = l.n - l.i

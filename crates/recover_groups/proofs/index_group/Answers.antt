@@ -67,12 +67,6 @@ returns-then-not-index_any c =
           (not_both (group_fault p w.gone (g off) w.base) (b off full) (no_group_fault p w.gone (g off) w.base h));
     }
 
-pub overflow_add-d : goal.overflow_add-d
-overflow_add-d c = omega arith
-
-pub loop-d-smaller : goal.loop-d-smaller
-loop-d-smaller c = omega arith
-
 pub loop-d-preserved : goal.loop-d-preserved
 loop-d-preserved c =
     let a = c.args in

@@ -19,6 +19,3 @@ invariant-loop-d l =
     × ((off : List ℕ) → l.w.full ≡ sealed_in l.p (view_of l.p off l.image l.pointers) l.w.gone l.w.seg
     → any (drive_bad l.p l.w.gone (segment_in l.p off l.image l.pointers l.w) l.w.base) (up_from l.d (l.p.N - l.d))
     ≡ any (drive_bad l.p l.w.gone (segment_in l.p off l.image l.pointers l.w) l.w.base) (below l.p.N))
-
-abbrev pub decreases-loop-d : goal.decreases-loop-d
-decreases-loop-d l = l.p.N - l.d

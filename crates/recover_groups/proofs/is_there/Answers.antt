@@ -4,7 +4,14 @@ use mathlib.Core.Bool.{Bool, not, ◌||◌}
 use Prim.Native.Nat.{◌+◌, ◌*◌}
 use lib.Dec.{eqb}
 use lib.ListN.{get_or}
+use native.Mathlib.Omega.{arith}
+use Rattle.law_basic.specs.Geometry.{ranged}
 use Rattle.recover_groups.proofs.is_there.Goals as goal
+
+pub has_chunk-requires : goal.has_chunk-requires
+has_chunk-requires c =
+    let h = c.requires in
+    (h.at_len.0, omega (arith, h.at_len.1, (ranged c.args.p h.p_value).drives_high), h.at_len.2)
 
 pub returns-then-has_drive : goal.returns-then-has_drive
 returns-then-has_drive c =

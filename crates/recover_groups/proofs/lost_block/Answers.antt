@@ -31,12 +31,6 @@ pub bounds-from-d : goal.bounds-from-d
 bounds-from-d c =
     omega (arith, c.loop-d-test.true, (ranged c.args.p c.requires.p_value).drives_high)
 
-pub overflow_add-d : goal.overflow_add-d
-overflow_add-d c = omega (arith, c.loop-d-test.true)
-
-pub loop-d-smaller : goal.loop-d-smaller
-loop-d-smaller c = omega (arith, c.loop-d-test.true)
-
 pub loop-d-preserved : goal.loop-d-preserved
 loop-d-preserved c =
     let a = c.args in

@@ -2,7 +2,7 @@
 use mathlib.Core.Path.{◌≡◌}
 use mathlib.Core.Bool.{false}
 use mathlib.Core.List.{List}
-use Prim.Native.Nat.{ℕ, ◌+◌, ◌-◌, ◌≤◌, ◌<◌}
+use Prim.Native.Nat.{ℕ, ◌+◌, ◌≤◌, ◌<◌}
 use lib.ListN.{length, get_or}
 use Rattle.spec.specs.Bytes.{part}
 use Rattle.spec.specs.Lists.{is_in}
@@ -17,6 +17,3 @@ invariant-loop-d l =
     × (length l.from ≡ 8)
     × ((e : ℕ) → e < l.d → is_in l.w.gone e ≡ false → (get_or l.from e 0 + l.p.B ≤ image_len l.p) × ((off ps : List ℕ) → GroupReads l.p off l.image ps l.w l.at
     → (stored_piece (segment_in l.p off l.image ps l.w) (l.w.base + l.k) e).block ≡ part (get_or l.from e 0) l.p.B l.image))
-
-abbrev pub decreases-loop-d : goal.decreases-loop-d
-decreases-loop-d l = l.p.N - l.d

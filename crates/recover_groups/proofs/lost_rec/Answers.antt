@@ -41,12 +41,6 @@ pub bounds-stamps-d : goal.bounds-stamps-d
 bounds-stamps-d c =
     omega (arith, c.loop-d-test.true, (ranged c.args.p c.requires.p_value).drives_high)
 
-pub overflow_add-d : goal.overflow_add-d
-overflow_add-d c = omega (arith, c.loop-d-test.true)
-
-pub loop-d-smaller : goal.loop-d-smaller
-loop-d-smaller c = omega (arith, c.loop-d-test.true)
-
 pub loop-d-preserved : goal.loop-d-preserved
 loop-d-preserved c =
     let a = c.args in

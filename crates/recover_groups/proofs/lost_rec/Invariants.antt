@@ -2,7 +2,7 @@
 use mathlib.Core.Path.{◌≡◌}
 use mathlib.Core.Bool.{false}
 use mathlib.Core.List.{List}
-use Prim.Native.Nat.{ℕ, ◌+◌, ◌-◌, ◌≤◌, ◌<◌}
+use Prim.Native.Nat.{ℕ, ◌+◌, ◌≤◌, ◌<◌}
 use lib.ListN.{length, get_or}
 use Rattle.spec.specs.Lists.{is_in}
 use Rattle.spec.specs.Segments.{stored_rec}
@@ -18,6 +18,3 @@ invariant-loop-d l =
     → (stored_rec (segment_in l.p off l.image ps l.w) (l.w.base + l.k) e).address ≡ get_or l.addresses e 0)
     × ((e : ℕ) → e < l.d → is_in l.w.gone e ≡ false → (off ps : List ℕ) → GroupReads l.p off l.image ps l.w l.at
     → (stored_rec (segment_in l.p off l.image ps l.w) (l.w.base + l.k) e).stamp ≡ get_or l.stamps e 0)
-
-abbrev pub decreases-loop-d : goal.decreases-loop-d
-decreases-loop-d l = l.p.N - l.d

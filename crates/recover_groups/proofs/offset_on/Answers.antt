@@ -5,9 +5,6 @@ use native.Mathlib.Omega.{arith}
 use Rattle.recover_groups.specs.Chunks.{entered_chunk}
 use Rattle.recover_groups.proofs.offset_on.Goals as goal
 
-pub overflow_cast-result : goal.overflow_cast-result
-overflow_cast-result c = omega (arith, c.shared_slice_known-1.given (256 * c.args.drive + c.args.k))
-
 pub overflow_add-result : goal.overflow_add-result
 overflow_add-result c =
     let args = c.args in

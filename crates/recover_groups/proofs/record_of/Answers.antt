@@ -9,9 +9,6 @@ use Rattle.law_basic.specs.Splice.{part_lent}
 use Rattle.disk_stored.specs.Stored.{record_by}
 use Rattle.recover_groups.proofs.record_of.Goals as goal
 
-pub overflow_add-end : goal.overflow_add-end
-overflow_add-end c = omega (arith, spare_len_lem)
-
 pub slice_bounds-read_record-end : goal.slice_bounds-read_record-end
 slice_bounds-read_record-end c = omega (arith, spare_len_lem)
 

@@ -22,9 +22,6 @@ loop-z-init c =
           (names_start a.p (view_of a.p off a.image.now ps) a.gone (length a.counts.now)),
     )
 
-pub bounds-kept-z : goal.bounds-kept-z
-bounds-kept-z c = omega (arith, c.requires.image_len.1, c.loop-z-test.true)
-
 pub count_if-requires : goal.count_if-requires
 count_if-requires c =
     let loop = c.loop-z in
@@ -35,12 +32,6 @@ count_if-requires c =
       image_len =
           (c.requires.image_len.0, omega (arith, c.requires.image_len.2, loop.invariant.1, clear.auto.dst), low_drive_holds.ensures.1, if1.true);
     }
-
-pub overflow_add-z : goal.overflow_add-z
-overflow_add-z c = omega arith
-
-pub loop-z-smaller : goal.loop-z-smaller
-loop-z-smaller c = omega arith
 
 pub loop-z-preserved : goal.loop-z-preserved
 unfolding names_at

@@ -1,50 +1,25 @@
--- `pointer_fault`: the lowest zone with a pointer above from z on is the lowest of all; one found ends it, and at Z there is none. Assumes nothing.
-use mathlib.Core.Path.{sym, ap, ◌∙◌}
+-- `pointer_fault`: the lowest zone with a pointer above. Assumes nothing.
+use mathlib.Core.Path.{refl, sym, ap, ◌∙◌}
+use mathlib.Core.Bool.{Bool}
+use mathlib.Core.List.{List}
+use Prim.Native.Nat.{ℕ}
 use native.Mathlib.Omega.{arith}
-use Rattle.spec.specs.Lists.{first_or}
-use Rattle.disk_gather.specs.Found.{lowest_turn, lowest_pass, lowest_end, lowest_start}
+use borrow.Author.Rules.{rules}
+use Rattle.std.specs.List.{range_with_len}
+use Rattle.std.proofs.lemmas.Iterator.{YieldsList-from_range}
+use Rattle.std.proofs.lemmas.Iterator.Adapters.{option_map_id}
+use Rattle.std.proofs.lemmas.Iterator.Search.{find_from_yields_List}
+use Rattle.spec.specs.Lists.{keep}
+use Rattle.disk_gather.specs.Ranges.{range_below, opt_first, find_opt_first}
 use Rattle.recover_headers.specs.Fronts.{above_by, pointer_list}
 use Rattle.recover_headers.proofs.pointer_fault.Goals as goal
 
-pub loop-z-init : goal.loop-z-init
-loop-z-init c = let a = c.args in (omega arith, lowest_start (above_by a.p a.pointers.now a.offline.now a.gone) a.p.Z a.p.Z)
-
-pub any_above-requires : goal.any_above-requires
-any_above-requires c = record { p_value = c.requires.p_value; pointers_len = (c.requires.pointers_len.0, c.requires.pointers_len.1, c.loop-z-test.true) }
-
-pub returns-then-any_above : goal.returns-then-any_above
-returns-then-any_above c =
+pub returns-clause-first : goal.returns-clause-first
+returns-clause-first c =
     let a = c.args in
-    let p = a.p in
-    let l = c.loop-z in
-    let f = above_by p a.pointers.now a.offline.now a.gone in record {
-      upper_bound = omega (arith, c.loop-z-test.true);
-      by_index = λ im h.
-          (sym (lowest_turn f p.Z l.z p.Z c.loop-z-test.true (sym c.any_above.ensures ∙ c.if-any_above.true)) ∙ l.invariant.1)
-          ∙ ap (first_or p.Z) (sym (pointer_list p a.offline.now im a.pointers.now h c.requires.pointers_len.0 a.gone));
-    }
-
-pub overflow_add-z : goal.overflow_add-z
-overflow_add-z c = omega arith
-
-pub loop-z-smaller : goal.loop-z-smaller
-loop-z-smaller c = omega arith
-
-pub loop-z-preserved : goal.loop-z-preserved
-loop-z-preserved c =
-    let a = c.args in
-    let p = a.p in
-    let l = c.loop-z in
-    let f = above_by p a.pointers.now a.offline.now a.gone in
-    (omega (arith, c.loop-z-test.true), sym (lowest_pass f p.Z l.z p.Z c.loop-z-test.true (sym c.any_above.ensures ∙ c.if-any_above.false)) ∙ l.invariant.1)
-
-pub returns : goal.returns
-returns c =
-    let a = c.args in
-    let p = a.p in
-    let l = c.loop-z in
-    let f = above_by p a.pointers.now a.offline.now a.gone in record {
-      upper_bound = omega arith;
-      by_index = λ im h. (sym (lowest_end f p.Z l.z p.Z (omega (arith, c.loop-z-test.false))) ∙ l.invariant.1)
-          ∙ ap (first_or p.Z) (sym (pointer_list p a.offline.now im a.pointers.now h c.requires.pointers_len.0 a.gone));
-    }
+    let n = a.p.Z in
+    let f : ℕ → Bool = above_by a.p a.pointers.now a.offline.now a.gone in
+    λ im h. sym (option_map_id c.find.result)
+    ∙ find_from_yields_List f _ _ c.find.result c.find.ensures.ran (YieldsList-from_range 0 n n refl (omega arith)) (λ x b q k. search rules)
+    ∙ find_opt_first f (range_with_len 0 n) ∙ ap (λ (l : List ℕ). opt_first (keep f l)) (range_below n)
+    ∙ ap opt_first (sym (pointer_list a.p a.offline.now im a.pointers.now h c.requires.pointers_len.0 a.gone))

@@ -10,6 +10,7 @@ use mathlib.Core.List.{[], map}
 use mathlib.Core.Path.{refl, ◌∙◌}
 use native.Mathlib.Omega.{arith}
 use Rattle.law_basic.specs.Segs.{low_here}
+use Rattle.disk_zones.specs.Made.{storing_exit}
 use Rattle.recover_move.proofs.move_stripe.Goals as goal
 
 pub loop-d-init : goal.loop-d-init
@@ -23,8 +24,8 @@ loop-d-init c =
           (pre.by_index_2 off),
     )
 
-pub move_chunk-made-requires : goal.move_chunk-made-requires
-move_chunk-made-requires c =
+pub move_chunk-requires : goal.move_chunk-requires
+move_chunk-requires c =
     let a = c.args in
     let if1 = c.loop-d-test in
     let loop = c.loop-d in
@@ -49,39 +50,34 @@ move_chunk-made-requires c =
       );
     }
 
-pub shape_of-image-then-made : goal.shape_of-image-then-made
-shape_of-image-then-made c =
-    let move-chunk = c.move_chunk-made in
+pub shape_of-image-in_err-left : goal.shape_of-image-in_err-left
+shape_of-image-in_err-left c =
+    let move-chunk = c.move_chunk in
     let loop = c.loop-d in
     move-chunk.auto.image ∙ loop.invariant.0
 
-pub shape_of-pointers-then-made : goal.shape_of-pointers-then-made
-shape_of-pointers-then-made c =
-    let move-chunk = c.move_chunk-made in
+pub shape_of-pointers-in_err-left : goal.shape_of-pointers-in_err-left
+shape_of-pointers-in_err-left c =
+    let move-chunk = c.move_chunk in
     let loop = c.loop-d in
     move-chunk.auto.pointers ∙ loop.invariant.1
 
-pub returns-then-made : goal.returns-then-made
-returns-then-made c =
-    let move-chunk = c.move_chunk-made in
+pub returns-in_err-left : goal.returns-in_err-left
+returns-in_err-left c =
+    let move-chunk = c.move_chunk in
     let if1 = c.loop-d-test in
     let loop = c.loop-d in
     let args = c.args in
     let pre = c.requires in
-    λ off. row_cut args.p (ranged args.p pre.p_value) off args.count (mk_disk args.image.now args.pointers.now) args.w pre.moves_shown.seg-low
+    λ off. storing_exit c.from_residual.result c.from_residual.ensures.0
+    (row_cut args.p (ranged args.p pre.p_value) off args.count (mk_disk args.image.now args.pointers.now) args.w pre.moves_shown.seg-low
     pre.moves_shown.none_gone args.to (args.w.base + args.k) args.s pre.zones_low.2 loop.d loop.left
-    (mk_disk loop.image loop.pointers) (loop.invariant.2 off) if1.true move-chunk.result
-    (mk_disk move-chunk.new.image move-chunk.new.pointers) (move-chunk.ensures off) c.if-made.true
-
-pub overflow_add-d : goal.overflow_add-d
-overflow_add-d c = omega arith
-
-pub loop-d-smaller : goal.loop-d-smaller
-loop-d-smaller c = omega arith
+    (mk_disk loop.image loop.pointers) (loop.invariant.2 off) if1.true
+    (mk_disk move-chunk.new.image move-chunk.new.pointers) (c.in_err-left.ensures off))
 
 pub loop-d-preserved : goal.loop-d-preserved
 loop-d-preserved c =
-    let move-chunk = c.move_chunk-made in
+    let move-chunk = c.move_chunk in
     let if1 = c.loop-d-test in
     let loop = c.loop-d in
     let args = c.args in
@@ -92,8 +88,8 @@ loop-d-preserved c =
           ∙ loop.invariant.1,
       λ off. row_turn args.p (ranged args.p pre.p_value) off args.count (mk_disk args.image.now args.pointers.now) args.w
           pre.moves_shown.seg-low pre.moves_shown.none_gone args.to (args.w.base + args.k) args.s pre.zones_low.2 loop.d
-          loop.left (mk_disk loop.image loop.pointers) (loop.invariant.2 off) if1.true move-chunk.result
-          (mk_disk move-chunk.new.image move-chunk.new.pointers) (move-chunk.ensures off) c.if-made.false,
+          loop.left (mk_disk loop.image loop.pointers) (loop.invariant.2 off) if1.true c.in_ok-left.left
+          (mk_disk move-chunk.new.image move-chunk.new.pointers) (c.in_ok-left.ensures off),
     )
 
 pub shape_of-image : goal.shape_of-image

@@ -17,6 +17,3 @@ invariant-loop-d l =
     × ((off : List ℕ)
     → Moves l.p off l.count (moved_stripe l.p (segment_in l.p off l.initial.image l.initial.pointers l.w) l.to (l.w.base + l.k) l.s) (mk_disk l.initial.image l.initial.pointers) l.w.seg
     (map (moved_to l.p (segment_in l.p off l.initial.image l.initial.pointers l.w) l.to (l.w.base + l.k) l.s) (up_from l.d (l.p.N - l.d))) l.left (mk_disk l.image l.pointers))
-
-abbrev pub decreases-loop-d : goal.decreases-loop-d
-decreases-loop-d l = l.p.N - l.d

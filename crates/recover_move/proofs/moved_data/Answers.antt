@@ -5,7 +5,7 @@ use Rattle.law_basic.specs.Mask.{is_in_empty}
 use Rattle.recover_move.specs.Moves.{shown-low}
 use Rattle.recover_move.specs.Pieces.{data-moved}
 use Rattle.disk_records.specs.Record.{rec_val}
-use mathlib.Core.Path.{refl}
+use mathlib.Core.Path.{refl, sym, ◌∙◌}
 use native.Mathlib.Omega.{arith}
 use Rattle.law_basic.specs.Segs.{low_here}
 use Rattle.recover_move.proofs.moved_data.Goals as goal
@@ -16,8 +16,8 @@ overflow_add-w c =
     let pre = c.requires in
     omega (arith, shown-low args.p args.w args.at.now args.k pre.moves_shown, (ranged args.p pre.p_value).stripes_high)
 
-pub copy_block-requires : goal.copy_block-requires
-copy_block-requires c =
+pub chunk_block-requires : goal.chunk_block-requires
+chunk_block-requires c =
     let args = c.args in
     let pre = c.requires in record {
       p_value = pre.p_value;
@@ -28,10 +28,12 @@ copy_block-requires c =
         pre.moves_shown.base_low,
         c.data_drive-from.ensures.1,
         pre.moves_shown.in_group,
-        pre.image_len.1,
       );
       entered = pre.all_entered c.data_drive-from.result c.data_drive-from.ensures.1 (is_in_empty c.data_drive-from.result);
     }
+
+pub copy-requires : goal.copy-requires
+copy-requires c = c.chunk_block.ensures.long ∙ sym c.requires.image_len.1
 
 pub stored_rec-r-requires : goal.stored_rec-r-requires
 stored_rec-r-requires c =
@@ -53,13 +55,12 @@ stored_rec-r-requires c =
 pub returns : goal.returns
 returns c =
     let stored_rec_holds = c.stored_rec-r in
-    let copy_block = c.copy_block in
     let data-drive = c.data_drive-from in
     let args = c.args in
     let pre = c.requires in
     λ off ps x.
     data-moved args.p (ranged args.p pre.p_value) off args.image.now ps args.w args.at.now args.k args.s pre.image_len.0
     pre.moves_shown.seg-low pre.moves_shown.base_low pre.moves_shown.in_group pre.all_entered x args.i data-drive.result
-    copy_block.new.block (rec_val stored_rec_holds.result)
-    (mk_rec stored_rec_holds.result.address.0 stored_rec_holds.result.stamp.0 args.s) data-drive.ensures.0 (copy_block.ensures off ps x)
+    c.copy.new.dst (rec_val stored_rec_holds.result)
+    (mk_rec stored_rec_holds.result.address.0 stored_rec_holds.result.stamp.0 args.s) data-drive.ensures.0 (c.copy.ensures ∙ c.chunk_block.ensures.block off ps x)
     (stored_rec_holds.ensures off ps x) refl refl refl

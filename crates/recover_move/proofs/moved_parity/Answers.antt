@@ -1,5 +1,6 @@
 -- `moved_parity`: block and record are the exclusive or of the first i data chunks, the block at first zeros; one turn adds chunk i. Assumes nothing.
 use Prim.Native.Nat.{ℕ, ◌+◌}
+use Rattle.spec.specs.Bytes.{xors}
 use Rattle.spec.specs.Layout.{mk_rec}
 use Rattle.spec.specs.Params.{data_count}
 use Rattle.recover_groups.specs.Groups.{segment_in}
@@ -9,13 +10,19 @@ use Rattle.recover_move.specs.Moves.{shown-low}
 use Rattle.recover_move.specs.Pieces.{data_count_minus, Xored, xored_start, xored_done, xored_step}
 use Rattle.disk_records.specs.Record.{rec_val}
 use lib.ListN.{replicate}
-use mathlib.Core.Path.{◌≡◌, refl, ap, ◌∙◌, subst}
+use mathlib.Core.Path.{◌≡◌, refl, sym, ap, ◌∙◌, subst}
 use native.Mathlib.Omega.{arith}
 use Rattle.law_basic.specs.Segs.{low_here}
 use Rattle.recover_move.proofs.moved_parity.Goals as goal
 
 pub overflow_cast-r : goal.overflow_cast-r
 overflow_cast-r c = omega arith
+
+pub overflow_sub-i-end : goal.overflow_sub-i-end
+overflow_sub-i-end c =
+    let args = c.args in
+    let pre = c.requires in
+    omega (arith, (ranged args.p pre.p_value).drives_low)
 
 pub loop-i-init : goal.loop-i-init
 loop-i-init c =
@@ -28,12 +35,6 @@ loop-i-init c =
           (mk_rec 0 0 args.s) (clear.ensures ∙ ap (λ (n : ℕ). replicate n 0) pre.image_len.1) refl refl refl,
     )
 
-pub overflow_sub-p : goal.overflow_sub-p
-overflow_sub-p c =
-    let args = c.args in
-    let pre = c.requires in
-    omega (arith, (ranged args.p pre.p_value).drives_low)
-
 pub overflow_add-w : goal.overflow_add-w
 overflow_add-w c =
     let args = c.args in
@@ -45,10 +46,8 @@ data_drive-from-requires c =
     let args = c.args in
     let pre = c.requires in record { p_value = pre.p_value; position_bound = omega (arith, data_count_minus args.p, c.loop-i-test.true) }
 
-pub xor_block-requires : goal.xor_block-requires
-xor_block-requires c =
-    let loop = c.loop-i in
-    let clear = c.clear in
+pub chunk_block-requires : goal.chunk_block-requires
+chunk_block-requires c =
     let args = c.args in
     let pre = c.requires in record {
       p_value = pre.p_value;
@@ -59,12 +58,12 @@ xor_block-requires c =
         pre.moves_shown.base_low,
         c.data_drive-from.ensures.1,
         pre.moves_shown.in_group,
-        loop.invariant.1
-            ∙ clear.auto.dst
-            ∙ pre.image_len.1,
       );
       entered = pre.all_entered c.data_drive-from.result c.data_drive-from.ensures.1 (is_in_empty c.data_drive-from.result);
     }
+
+pub xor_into-requires : goal.xor_into-requires
+xor_into-requires c = c.chunk_block.ensures.long ∙ sym (c.loop-i.invariant.1 ∙ c.clear.auto.dst ∙ c.requires.image_len.1)
 
 pub stored_rec-requires : goal.stored_rec-requires
 stored_rec-requires c =
@@ -83,30 +82,20 @@ stored_rec-requires c =
       entered = pre.all_entered data-drive.result data-drive.ensures.1 (is_in_empty data-drive.result);
     }
 
-pub overflow_add-i : goal.overflow_add-i
-overflow_add-i c = omega arith
-
-pub loop-i-smaller : goal.loop-i-smaller
-loop-i-smaller c =
-    let if1 = c.loop-i-test in
-    let args = c.args in
-    omega (arith, data_count_minus args.p, if1.true)
-
 pub loop-i-preserved : goal.loop-i-preserved
 loop-i-preserved c =
-    let xor_block = c.xor_block in
     let data-drive = c.data_drive-from in
     let if1 = c.loop-i-test in
     let loop = c.loop-i in
     let args = c.args in
     let pre = c.requires in (
       omega (arith, data_count_minus args.p, if1.true),
-      xor_block.auto.block ∙ loop.invariant.1,
+      c.xor_into.auto.dst ∙ loop.invariant.1,
       λ off ps x.
           xored_step args.p (ranged args.p pre.p_value) off args.image.now ps args.w args.at.now args.k args.s pre.image_len.0
           pre.moves_shown.seg-low pre.moves_shown.base_low pre.moves_shown.in_group pre.all_entered x loop.i data-drive.result loop.block
-          xor_block.new.block (rec_val loop.r) (rec_val c.xor_rec-r.result) (rec_val c.stored_rec.result)
-          (omega (arith, data_count_minus args.p, if1.true)) data-drive.ensures.0 (loop.invariant.2 off ps x) (xor_block.ensures off ps x)
+          c.xor_into.new.dst (rec_val loop.r) (rec_val c.xor_rec-r.result) (rec_val c.stored_rec.result)
+          (omega (arith, data_count_minus args.p, if1.true)) data-drive.ensures.0 (loop.invariant.2 off ps x) (c.xor_into.ensures ∙ ap (xors loop.block) (c.chunk_block.ensures.block off ps x))
           (c.stored_rec.ensures off ps x) c.xor_rec-r.ensures.0 c.xor_rec-r.ensures.1 c.xor_rec-r.ensures.2,
     )
 

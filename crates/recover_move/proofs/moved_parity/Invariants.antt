@@ -1,5 +1,5 @@
 -- `moved_parity`: block and record are the exclusive or of the first i data chunks, the block at first zeros; one turn adds chunk i. Assumes nothing.
-use Prim.Native.Nat.{ℕ, ◌+◌, ◌-◌, ◌≤◌}
+use Prim.Native.Nat.{ℕ, ◌+◌, ◌≤◌}
 use Rattle.spec.specs.Params.{data_count}
 use Rattle.recover_groups.specs.Groups.{segment_in, GroupReads}
 use Rattle.recover_move.specs.Pieces.{Xored}
@@ -13,6 +13,3 @@ abbrev pub invariant-loop-i : goal.invariant-loop-i
 invariant-loop-i l =
     (l.i ≤ data_count l.p) × (length l.block ≡ length l.initial.block) ×
     ((off : List ℕ) (ps : List ℕ) → GroupReads l.p off l.image ps l.w l.at → Xored l.p (segment_in l.p off l.image ps l.w) (l.w.base + l.k) l.s l.i l.block (rec_val l.r))
-
-abbrev pub decreases-loop-i : goal.decreases-loop-i
-decreases-loop-i l = data_count l.p - l.i

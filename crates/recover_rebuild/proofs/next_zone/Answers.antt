@@ -16,12 +16,6 @@ sooner-next-requires c =
     let l = c.loop-z in
     (pre.0, pre.1, c.loop-z-test.true, l.invariant.1.upto)
 
-pub overflow_add-z : goal.overflow_add-z
-overflow_add-z c = omega arith
-
-pub loop-z-smaller : goal.loop-z-smaller
-loop-z-smaller c = omega arith
-
 pub loop-z-preserved : goal.loop-z-preserved
 loop-z-preserved c =
     let l = c.loop-z in

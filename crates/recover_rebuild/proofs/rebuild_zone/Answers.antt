@@ -16,6 +16,8 @@ use Rattle.law_drives.specs.Accept.{named_here}
 use Rattle.disk_zones.specs.Made.{Storing}
 use Rattle.recover_reset.specs.Rebuilt.{head_store}
 use Rattle.recover_rebuild.specs.Zone.{head_room, head_store_is, head_cut, head_whole, head_fits, head_good, head_sealed, head_one, rest_made}
+use Rattle.std.specs.Prelude.{Ok}
+use Rattle.disk_zones.specs.Made.{too_few, storing_exit}
 use Rattle.recover_rebuild.proofs.rebuild_zone.Goals as goal
 
 low_there : (p : Params) (gone d : ℕ) (g : Seg) → Ranged p → gone ≡ named d → d < p.N → ZonesLow p (named d) g → (low : ℕ) → low ≡ low_drive p gone → zone_on g low < p.Z
@@ -61,8 +63,8 @@ is_sealed-full-requires c =
     let pre = c.requires in
     let a = c.args in record { p_value = pre.p_value; pointers_len = (pre.whole.pointers_long, subst (λ (x : ℕ). ZonesLow a.p x a.seg) (sym pre.gone_value.0) pre.gone_value.2) }
 
-pub put_header-made-requires : goal.put_header-made-requires
-put_header-made-requires c =
+pub put_header-requires : goal.put_header-requires
+put_header-requires c =
     let a = c.args in
     let q = c.requires in
     let p = a.p in
@@ -79,11 +81,11 @@ put_header-made-requires c =
       );
     }
 
-pub returns-then-made : goal.returns-then-made
-returns-then-made c =
+pub returns-in_err-left : goal.returns-in_err-left
+returns-in_err-left c =
     let a = c.args in
     let q = c.requires in
-    let put_header = c.put_header-made in
+    let put_header = c.put_header in
     let Copied-on = c.copied_on-copied in
     let serial_on = c.serial_on-serial in
     let low_drive_holds = c.low_drive-low in
@@ -97,20 +99,18 @@ returns-then-made c =
     λ off. serial_on.ensures off a.pointers.now q.whole.pointers_long ∙ ap (λ (x : ℕ). header_serial p (header_at (seen p off k₀) x a.seg)) lo in
     let eb : (off : List ℕ) → Copied-on.result.0 ≡ header_copied p (header_at (seen p off k₀) (low_drive p (named d)) a.seg) =
     λ off. Copied-on.ensures off a.pointers.now q.whole.pointers_long ∙ ap (λ (x : ℕ). header_copied p (header_at (seen p off k₀) x a.seg)) lo in
-    let m = put_header.result in
     let k = mk_disk put_header.new.image put_header.new.pointers in
-    let s : (off : List ℕ) → Storing p a.count (head_store p d (segment_of p (seen p off k₀) (named d) a.seg) ∷ []) k₀ m k =
-    λ off. subst (λ (x : Store). Storing p a.count (x ∷ []) k₀ m k)
+    let s : (off : List ℕ) → Storing p a.count (head_store p d (segment_of p (seen p off k₀) (named d) a.seg) ∷ []) k₀ too_few k =
+    λ off. subst (λ (x : Store). Storing p a.count (x ∷ []) k₀ too_few k)
     (head_store_is p r off d a.seg a.count h.1 h.2 h.4 k₀ q.whole (q.by_index_2 off) h.3 serial_on.result.0 Copied-on.result.0 (ea off) (eb off))
-    put_header.ensures in
-    λ off. head_cut p r off d a.seg a.count h.1 h.2 h.4 k₀ q.whole (q.by_index_2 off) h.3 m k (s off) c.if-made.true
+    c.in_err-left.ensures in
+    λ off. storing_exit c.from_residual.result c.from_residual.ensures.0 (head_cut p r off d a.seg a.count h.1 h.2 h.4 k₀ q.whole (q.by_index_2 off) h.3 k (s off))
 
 pub rebuild_data-requires : goal.rebuild_data-requires
 rebuild_data-requires c =
     let a = c.args in
     let q = c.requires in
-    let if1 = c.if-made in
-    let put_header = c.put_header-made in
+    let put_header = c.put_header in
     let is-sealed = c.is_sealed-full in
     let Copied-on = c.copied_on-copied in
     let serial_on = c.serial_on-serial in
@@ -125,33 +125,31 @@ rebuild_data-requires c =
     λ off. serial_on.ensures off a.pointers.now q.whole.pointers_long ∙ ap (λ (x : ℕ). header_serial p (header_at (seen p off k₀) x a.seg)) lo in
     let eb : (off : List ℕ) → Copied-on.result.0 ≡ header_copied p (header_at (seen p off k₀) (low_drive p (named d)) a.seg) =
     λ off. Copied-on.ensures off a.pointers.now q.whole.pointers_long ∙ ap (λ (x : ℕ). header_copied p (header_at (seen p off k₀) x a.seg)) lo in
-    let m = put_header.result in
+    let m = c.in_ok-left.left in
     let k = mk_disk put_header.new.image put_header.new.pointers in
-    let s : (off : List ℕ) → Storing p a.count (head_store p d (segment_of p (seen p off k₀) (named d) a.seg) ∷ []) k₀ m k =
-    λ off. subst (λ (x : Store). Storing p a.count (x ∷ []) k₀ m k)
+    let s : (off : List ℕ) → Storing p a.count (head_store p d (segment_of p (seen p off k₀) (named d) a.seg) ∷ []) k₀ (Ok m) k =
+    λ off. subst (λ (x : Store). Storing p a.count (x ∷ []) k₀ (Ok m) k)
     (head_store_is p r off d a.seg a.count h.1 h.2 h.4 k₀ q.whole (q.by_index_2 off) h.3 serial_on.result.0 Copied-on.result.0 (ea off) (eb off))
-    put_header.ensures in
-    let n = if1.false in
+    c.in_ok-left.ensures in
     let f : (off : List ℕ) → is-sealed.result ≡ sealed_in p (seen p off k₀) (named d) a.seg =
     λ off. is-sealed.ensures off a.image.now q.whole.image_long
     ∙ ap (λ (x : ℕ). sealed_in p (seen p off k₀) x a.seg) h.0 in
     record {
       p_value = q.p_value;
-      whole = head_whole p r [] d a.seg a.count h.1 h.2 h.4 k₀ q.whole (q.by_index_2 []) h.3 m k (s []) n;
+      whole = head_whole p r [] d a.seg a.count h.1 h.2 h.4 k₀ q.whole (q.by_index_2 []) h.3 m k (s []);
       gone_value =
-          (h.0, h.1, h.2, head_one p r [] d a.seg a.count h.1 h.2 h.4 k₀ q.whole (q.by_index_2 []) h.3 m k (s []) n, h.4);
+          (h.0, h.1, h.2, head_one p r [] d a.seg a.count h.1 h.2 h.4 k₀ q.whole (q.by_index_2 []) h.3 m k (s []), h.4);
       by_index = λ off. head_sealed p r off d a.seg
-          a.count h.1 h.2 h.4 k₀ q.whole (q.by_index_2 off) h.3 m k (s off) n is-sealed.result (f off);
+          a.count h.1 h.2 h.4 k₀ q.whole (q.by_index_2 off) h.3 m k (s off) is-sealed.result (f off);
       by_index_2 = λ off. head_good p r off d a.seg a.count h.1 h.2 h.4
-          k₀ q.whole (q.by_index_2 off) h.3 m k (s off) n (q.by_index off);
-      by_index_3 = λ off. head_fits p r off d a.seg a.count h.1 h.2 h.4 k₀ q.whole (q.by_index_2 off) h.3 m k (s off) n;
+          k₀ q.whole (q.by_index_2 off) h.3 m k (s off) (q.by_index off);
+      by_index_3 = λ off. head_fits p r off d a.seg a.count h.1 h.2 h.4 k₀ q.whole (q.by_index_2 off) h.3 m k (s off);
     }
 
 pub returns : goal.returns
 returns c =
     let rebuild-data = c.rebuild_data in
-    let if1 = c.if-made in
-    let put_header = c.put_header-made in
+    let put_header = c.put_header in
     let Copied-on = c.copied_on-copied in
     let serial_on = c.serial_on-serial in
     let low_drive_holds = c.low_drive-low in
@@ -167,11 +165,11 @@ returns c =
     λ off. serial_on.ensures off a.pointers.now q.whole.pointers_long ∙ ap (λ (x : ℕ). header_serial p (header_at (seen p off k₀) x a.seg)) lo in
     let eb : (off : List ℕ) → Copied-on.result.0 ≡ header_copied p (header_at (seen p off k₀) (low_drive p (named d)) a.seg) =
     λ off. Copied-on.ensures off a.pointers.now q.whole.pointers_long ∙ ap (λ (x : ℕ). header_copied p (header_at (seen p off k₀) x a.seg)) lo in
-    let m = put_header.result in
+    let m = c.in_ok-left.left in
     let k = mk_disk put_header.new.image put_header.new.pointers in
-    let s : (off : List ℕ) → Storing p a.count (head_store p d (segment_of p (seen p off k₀) (named d) a.seg) ∷ []) k₀ m k =
-    λ off. subst (λ (x : Store). Storing p a.count (x ∷ []) k₀ m k)
+    let s : (off : List ℕ) → Storing p a.count (head_store p d (segment_of p (seen p off k₀) (named d) a.seg) ∷ []) k₀ (Ok m) k =
+    λ off. subst (λ (x : Store). Storing p a.count (x ∷ []) k₀ (Ok m) k)
     (head_store_is p r off d a.seg a.count h.1 h.2 h.4 k₀ q.whole (q.by_index_2 off) h.3 serial_on.result.0 Copied-on.result.0 (ea off) (eb off))
-    put_header.ensures in
-    λ off. rest_made p r off d a.seg a.count h.1 h.2 h.4 k₀ q.whole (q.by_index_2 off) h.3 m k (s off) if1.false rebuild-data.result
+    c.in_ok-left.ensures in
+    λ off. rest_made p r off d a.seg a.count h.1 h.2 h.4 k₀ q.whole (q.by_index_2 off) h.3 m k (s off) rebuild-data.result
     (mk_disk rebuild-data.new.image rebuild-data.new.pointers) (rebuild-data.ensures off)

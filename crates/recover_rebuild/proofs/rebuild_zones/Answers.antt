@@ -16,8 +16,11 @@ use Rattle.law_views.specs.Views.{AllFit, seen}
 use Rattle.disk_zones.specs.Made.{Storing}
 use Rattle.recover_groups.specs.Groups.{recs_fault}
 use Rattle.recover_rebuild.specs.Drive.{zones_start, zones_done, zones_fit, zones_good, zones_cut, zones_turn}
+use Rattle.std.specs.Prelude.{Result, Ok}
+use Rattle.disk_zones.specs.declared.TooFew.{TooFew}
+use Rattle.disk_zones.specs.Made.{too_few, storing_exit}
 use Rattle.recover_rebuild.proofs.rebuild_zones.Goals as goal
-use Rattle.recover_rebuild.proofs.rebuild_zones.Goals.{After-rebuild_zone-made}
+use Rattle.recover_rebuild.proofs.rebuild_zones.Goals.{After-rebuild_zone}
 
 pub next_zone-z-requires : goal.next_zone-z-requires
 next_zone-z-requires c =
@@ -39,8 +42,8 @@ row-segment-requires c =
     let h = c.loop-z-test.true in
     (omega (arith, h, q.gone_value.2.rows_long), omega (arith, h, (ranged c.args.p q.p_value).zones_high))
 
-pub rebuild_zone-made-requires : goal.rebuild_zone-made-requires
-rebuild_zone-made-requires c =
+pub rebuild_zone-requires : goal.rebuild_zone-requires
+rebuild_zone-requires c =
     let a = c.args in
     let q = c.requires in
     let l = c.loop-z in
@@ -72,45 +75,45 @@ rebuild_zone-made-requires c =
 
 -- what is made is of the segment of the row
 made_is :
-    (c : After-rebuild_zone-made) (off : List ℕ)
+    (c : After-rebuild_zone) (off : List ℕ) (m : Result ℕ TooFew)
     → let a = c.args in
     let l = c.loop-z in
     let k = mk_disk l.image l.pointers in
-    Storing a.p l.left (rebuilt_zone a.p a.drive (segment_of a.p (seen a.p off k) (named a.drive) (seg (part (8 * l.z) 8 a.rows.now))))
-    k c.rebuild_zone-made.result (mk_disk c.rebuild_zone-made.new.image c.rebuild_zone-made.new.pointers)
-made_is c off =
+    let k' = mk_disk c.rebuild_zone.new.image c.rebuild_zone.new.pointers in
+    Storing a.p l.left (rebuilt_zone a.p a.drive (segment_of a.p (seen a.p off k) (named a.drive) c.row-segment.result)) k m k'
+    → Storing a.p l.left (rebuilt_zone a.p a.drive (segment_of a.p (seen a.p off k) (named a.drive) (seg (part (8 * l.z) 8 a.rows.now)))) k m k'
+made_is c off m s =
     let a = c.args in
     let l = c.loop-z in
     let k = mk_disk l.image l.pointers in
     subst
     (λ (y : Seg). Storing a.p l.left (rebuilt_zone a.p a.drive (segment_of a.p (seen a.p off k) (named a.drive) y))
-    k c.rebuild_zone-made.result (mk_disk c.rebuild_zone-made.new.image c.rebuild_zone-made.new.pointers))
-    c.row-segment.ensures (c.rebuild_zone-made.ensures off)
+    k m (mk_disk c.rebuild_zone.new.image c.rebuild_zone.new.pointers)) c.row-segment.ensures s
 
-pub shape_of-image-then-made : goal.shape_of-image-then-made
-shape_of-image-then-made c =
-    let z = c.rebuild_zone-made in
+pub shape_of-image-in_err-left : goal.shape_of-image-in_err-left
+shape_of-image-in_err-left c =
+    let z = c.rebuild_zone in
     let l = c.loop-z in
     let pre = c.requires in
     z.auto.image ∙ (l.invariant.0 []).moving.going.whole.image_long ∙ sym pre.whole.image_long
 
-pub shape_of-pointers-then-made : goal.shape_of-pointers-then-made
-shape_of-pointers-then-made c =
-    let z = c.rebuild_zone-made in
+pub shape_of-pointers-in_err-left : goal.shape_of-pointers-in_err-left
+shape_of-pointers-in_err-left c =
+    let z = c.rebuild_zone in
     let l = c.loop-z in
     let pre = c.requires in
     z.auto.pointers ∙ (l.invariant.0 []).moving.going.whole.pointers_long ∙ sym pre.whole.pointers_long
 
-pub returns-then-made : goal.returns-then-made
-returns-then-made c =
+pub returns-in_err-left : goal.returns-in_err-left
+returns-in_err-left c =
     let a = c.args in
     let q = c.requires in
     let l = c.loop-z in
     let if1 = c.loop-z-test in
-    let z = c.rebuild_zone-made in
-    λ off. zones_cut a.p (ranged a.p q.p_value) off a.drive a.count q.gone_value.1 a.kept.now a.serials.now a.rows.now q.gone_value.2
+    let z = c.rebuild_zone in
+    λ off. storing_exit c.from_residual.result c.from_residual.ensures.0 (zones_cut a.p (ranged a.p q.p_value) off a.drive a.count q.gone_value.1 a.kept.now a.serials.now a.rows.now q.gone_value.2
     (mk_disk a.image.now a.pointers.now) l.last l.left (mk_disk l.image l.pointers) (l.invariant.0 off) l.z l.invariant.1 if1.true
-    z.result (mk_disk z.new.image z.new.pointers) (made_is (goal.at.returns-then-made c).After-rebuild_zone-made off) c.if-made.true
+    (mk_disk z.new.image z.new.pointers) (made_is (goal.at.returns-in_err-left c).After-rebuild_zone off too_few (c.in_err-left.ensures off)))
 
 pub offset_bounds-serials-z : goal.offset_bounds-serials-z
 offset_bounds-serials-z c =
@@ -141,10 +144,11 @@ loop-z-preserved c =
     let q = c.requires in
     let l = c.loop-z in
     let if1 = c.loop-z-test in
-    let z = c.rebuild_zone-made in (
+    let z = c.rebuild_zone in (
       λ off. zones_turn a.p (ranged a.p q.p_value) off a.drive a.count q.gone_value.1 a.kept.now a.serials.now a.rows.now q.gone_value.2
           (mk_disk a.image.now a.pointers.now) l.last l.left (mk_disk l.image l.pointers) (l.invariant.0 off) l.z l.invariant.1 if1.true
-          z.result (mk_disk z.new.image z.new.pointers) (made_is (goal.at.loop-z-preserved c).After-rebuild_zone-made off) c.if-made.false,
+          c.in_ok-left.left (mk_disk z.new.image z.new.pointers)
+          (made_is (goal.at.loop-z-preserved c).After-rebuild_zone off (Ok c.in_ok-left.left) (c.in_ok-left.ensures off)),
       c.next_zone-z-in-loop-z.ensures,
     )
 

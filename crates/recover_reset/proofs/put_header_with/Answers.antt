@@ -7,7 +7,6 @@ use lib.ListN.{length, take}
 use lib.Seq.{take_at}
 use Rattle.spec.specs.Drives.Store.{put}
 use Rattle.spec.specs.Drives.{mk_disk, zero_spare, zones_in}
-use Rattle.spec.specs.History.{before}
 use Rattle.spec.specs.Layout.{header_block}
 use Rattle.spec.specs.Params.{unit_len}
 use Rattle.law_basic.specs.Fields.{length-zero_spare, header_block_long}

@@ -8,6 +8,7 @@ use Rattle.spec.specs.Drives.{Store, mk_disk, is_good, good_zones}
 use Rattle.spec.specs.Drives.Store.{reset}
 use Rattle.recover_drop.specs.Going.{Owes, owes_turn, owes_cut, owes_done}
 use Rattle.recover_reset.specs.Good.{good_from, good_start, good_step, good_end}
+use Rattle.disk_zones.specs.Made.{storing_exit}
 use Rattle.recover_reset.proofs.reset_drive.Goals as goal
 
 pub loop-z-init : goal.loop-z-init
@@ -20,49 +21,44 @@ loop-z-init c =
           (good_start a.p a.offline.now a.drive) (λ m k' h. h),
     )
 
-pub reset_good-made-requires : goal.reset_good-made-requires
-reset_good-made-requires c =
+pub reset_good-requires : goal.reset_good-requires
+reset_good-requires c =
     let q = c.requires in
     let l = c.loop-z in record { p_value = q.p_value; pointers_len = (l.invariant.1 ∙ q.pointers_len.0, q.pointers_len.1, q.pointers_len.2, c.loop-z-test.true) }
 
-pub shape_of-pointers-then-made : goal.shape_of-pointers-then-made
-shape_of-pointers-then-made c = c.reset_good-made.auto.pointers ∙ c.loop-z.invariant.1
+pub shape_of-pointers-in_err-left : goal.shape_of-pointers-in_err-left
+shape_of-pointers-in_err-left c = c.reset_good.auto.pointers ∙ c.loop-z.invariant.1
 
-pub returns-then-made : goal.returns-then-made
-returns-then-made c =
+pub returns-in_err-left : goal.returns-in_err-left
+returns-in_err-left c =
     let a = c.args in
     let l = c.loop-z in
-    let m = c.reset_good-made in
+    let m = c.reset_good in
     let ss = map (reset a.drive) (good_zones a.p a.offline.now a.drive) in
     let one = cond (is_good a.p a.offline.now a.drive l.z) (reset a.drive l.z ∷ []) [] in
     λ im.
     let k = mk_disk im a.pointers.now in
-    owes_cut a.p a.count ss k one (good_from a.p a.offline.now a.drive (l.z + 1)) l.left (mk_disk im l.pointers) m.result (mk_disk im m.new.pointers)
+    storing_exit c.from_residual.result c.from_residual.ensures.0
+    (owes_cut a.p a.count ss k one (good_from a.p a.offline.now a.drive (l.z + 1)) l.left (mk_disk im l.pointers) (mk_disk im m.new.pointers)
     (subst (λ (x : List Store). Owes a.p a.count ss k x l.left (mk_disk im l.pointers))
     (good_step a.p a.offline.now a.drive l.z c.loop-z-test.true) (l.invariant.2 im))
-    (m.ensures im) c.if-made.true
-
-pub overflow_add-z : goal.overflow_add-z
-overflow_add-z c = omega arith
-
-pub loop-z-smaller : goal.loop-z-smaller
-loop-z-smaller c = omega arith
+    (c.in_err-left.ensures im))
 
 pub loop-z-preserved : goal.loop-z-preserved
 loop-z-preserved c =
     let a = c.args in
     let l = c.loop-z in
-    let m = c.reset_good-made in
+    let m = c.reset_good in
     let ss = map (reset a.drive) (good_zones a.p a.offline.now a.drive) in
     let one = cond (is_good a.p a.offline.now a.drive l.z) (reset a.drive l.z ∷ []) [] in (
       omega arith,
       m.auto.pointers ∙ l.invariant.1,
       λ im.
           let k = mk_disk im a.pointers.now in
-          owes_turn a.p a.count ss k one (good_from a.p a.offline.now a.drive (l.z + 1)) l.left (mk_disk im l.pointers) m.result (mk_disk im m.new.pointers)
+          owes_turn a.p a.count ss k one (good_from a.p a.offline.now a.drive (l.z + 1)) l.left (mk_disk im l.pointers) c.in_ok-left.left (mk_disk im m.new.pointers)
           (subst (λ (x : List Store). Owes a.p a.count ss k x l.left (mk_disk im l.pointers))
           (good_step a.p a.offline.now a.drive l.z c.loop-z-test.true) (l.invariant.2 im))
-          (m.ensures im) c.if-made.false,
+          (c.in_ok-left.ensures im),
     )
 
 pub shape_of-pointers : goal.shape_of-pointers

@@ -1,7 +1,7 @@
 -- `reset_drive`: what is owed are the resets of the good zones from z on; one turn pays that of z, a cut ends it, at Z nothing is owed. Assumes nothing.
 use mathlib.Core.Path.{◌≡◌}
 use mathlib.Core.List.{List, map}
-use Prim.Native.Nat.{ℕ, ◌-◌, ◌≤◌}
+use Prim.Native.Nat.{ℕ, ◌≤◌}
 use lib.ListN.{length}
 use Rattle.spec.specs.Drives.{mk_disk, good_zones}
 use Rattle.spec.specs.Drives.Store.{reset}
@@ -15,6 +15,3 @@ invariant-loop-z l =
     × (length l.pointers ≡ length l.initial.pointers)
     × ((im : List ℕ) → Owes l.p l.count (map (reset l.drive) (good_zones l.p l.offline l.drive)) (mk_disk im l.initial.pointers)
     (good_from l.p l.offline l.drive l.z) l.left (mk_disk im l.pointers))
-
-abbrev pub decreases-loop-z : goal.decreases-loop-z
-decreases-loop-z l = l.p.Z - l.z

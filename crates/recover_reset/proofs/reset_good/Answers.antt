@@ -1,12 +1,12 @@
 -- `reset_good`: an offline zone gives no stores and the count stays; a good one gives its reset. Assumes nothing.
 use mathlib.Core.Path.{sym, ◌∙◌, subst}
 use mathlib.Core.List.{List, [], ◌∷◌}
-use mathlib.Core.Bool.{false}
 use borrow.Author.Tests.{not-true, not-false}
 use Rattle.spec.specs.Drives.{Store, mk_disk, is_good}
 use Rattle.spec.specs.Drives.Store.{reset}
 use Rattle.law_drives.specs.Tests.{cond_true, cond_false}
 use Rattle.disk_zones.specs.Made.{Storing, storing_none}
+use Rattle.std.specs.Prelude.{Ok}
 use Rattle.recover_reset.proofs.reset_good.Goals as goal
 
 pub returns-then-not-is_good : goal.returns-then-not-is_good
@@ -15,7 +15,7 @@ returns-then-not-is_good c =
     let g = c.is_good in
     λ im.
     let k = mk_disk im a.pointers.now in
-    subst (λ (l : List Store). Storing a.p a.count l k (record { left = a.count; cut = false }) k)
+    subst (λ (l : List Store). Storing a.p a.count l k (Ok a.count) k)
     (sym (cond_false (is_good a.p a.offline.now a.drive a.zone) (reset a.drive a.zone ∷ []) [] (sym g.ensures ∙ not-true g.result c.if-not-is_good.true-raw)))
     (storing_none a.p a.count k)
 

@@ -2,7 +2,6 @@
 use Prim.Native.Nat.{ℕ, ◌+◌, ◌-◌}
 use Rattle.spec.specs.Drives.{mk_disk}
 use Rattle.spec.specs.Segments.{Segment}
-use Rattle.recover_groups.specs.Bases.{in_group}
 use Rattle.recover_groups.specs.Groups.{group_len, segment_in}
 use Rattle.law_basic.specs.Geometry.{ranged}
 use Rattle.recover_rewrite.specs.Due.{itself, counted_from, itself_few, from_none, from_step, upto_start, upto_as, upto_done, upto_first, upto_cut}
@@ -11,6 +10,8 @@ use mathlib.Core.List.{[], ◌++◌}
 use mathlib.Core.Path.{refl, sym, ◌∙◌, subst}
 use native.Mathlib.Omega.{arith}
 use Rattle.law_basic.specs.Segs.{ZonesLow}
+use Rattle.std.specs.Prelude.{Ok, Err}
+use Rattle.disk_zones.specs.Made.{only_cut}
 use Rattle.recover_rewrite.proofs.move_group.Goals as goal
 
 pub index_group-requires : goal.index_group-requires
@@ -35,7 +36,7 @@ loop-k-init c =
       refl,
       omega (arith, pre.zones_low.1),
       λ off. upto_as args.p (ranged args.p pre.p_value) off (segment_in args.p off args.image.now args.pointers.now args.w) args.to
-          args.w.seg pre.at_len.1 pre.zones_low.3 args.m (mk_disk args.image.now args.pointers.now)
+          args.w.seg pre.at_len.1 pre.zones_low.2 args.m (mk_disk args.image.now args.pointers.now)
           (counted_from args.p (segment_in args.p off args.image.now args.pointers.now args.w) args.w.base
           (group_len args.p args.w.base)) (counted_from args.p (segment_in args.p off args.image.now args.pointers.now args.w)
           args.w.base (group_len args.p args.w.base))
@@ -44,13 +45,13 @@ loop-k-init c =
           (from_start args.p (segment_in args.p off args.image.now args.pointers.now args.w) args.w.base
           (group_len args.p args.w.base)) (upto_start args.p (ranged args.p pre.p_value) off
           (segment_in args.p off args.image.now args.pointers.now args.w) args.to args.w.seg pre.at_len.1
-          pre.zones_low.3 args.m (mk_disk args.image.now args.pointers.now)
+          pre.zones_low.2 args.m (mk_disk args.image.now args.pointers.now)
           (counted_from args.p (segment_in args.p off args.image.now args.pointers.now args.w) args.w.base
-          (group_len args.p args.w.base)) pre.whole (pre.by_index_2 off) pre.zones_low.2),
+          (group_len args.p args.w.base)) pre.whole (pre.by_index_2 off)),
     )
 
-pub move_if-next-requires : goal.move_if-next-requires
-move_if-next-requires c =
+pub move_if-requires : goal.move_if-requires
+move_if-requires c =
     let loop-test = c.loop-k-test in
     let loop = c.loop-k in
     let group-len = c.group_len-len in
@@ -75,7 +76,7 @@ move_if-next-requires c =
           (args.w.base + loop.k) (group_len args.p args.w.base - loop.k)) loop.next (mk_disk loop.image loop.pointers)
           (loop.invariant.4 off) index-group.new.at
           (record { long = pre.whole.pointers_long; full_right = (pre.by_index off).0; indexed = index-group.ensures.by_index_2 off (pre.by_index off).0 (pre.by_index off).1 });
-      zones_low = (pre.zones_low.0, loop.invariant.3, (loop.invariant.4 []).uncut, pre.zones_low.3);
+      zones_low = (pre.zones_low.0, loop.invariant.3, pre.zones_low.2);
       by_index_2 = λ off. upto_fits args.p (ranged args.p pre.p_value) off args.w pre.at_len.4 args.to args.m
           (mk_disk args.image.now args.pointers.now)
           (counted_from args.p (segment_in args.p off args.image.now args.pointers.now args.w) args.w.base
@@ -83,14 +84,14 @@ move_if-next-requires c =
           (args.w.base + loop.k) (group_len args.p args.w.base - loop.k)) loop.next (mk_disk loop.image loop.pointers)
           (loop.invariant.4 off) (λ (y : Segment). itself args.p y (args.w.base + loop.k)) loop.next.next
           (upto_first args.p (ranged args.p pre.p_value) off (segment_in args.p off args.image.now args.pointers.now args.w) args.to
-          args.w.seg pre.at_len.1 pre.zones_low.3 args.m (mk_disk args.image.now args.pointers.now)
+          args.w.seg pre.at_len.1 pre.zones_low.2 args.m (mk_disk args.image.now args.pointers.now)
           (counted_from args.p (segment_in args.p off args.image.now args.pointers.now args.w) args.w.base
           (group_len args.p args.w.base))
           (itself args.p (segment_in args.p off args.image.now args.pointers.now args.w) (args.w.base + loop.k))
           (counted_from args.p (segment_in args.p off args.image.now args.pointers.now args.w) (args.w.base + (loop.k + 1))
           (group_len args.p args.w.base - (loop.k + 1))) loop.next (mk_disk loop.image loop.pointers)
           (upto_as args.p (ranged args.p pre.p_value) off (segment_in args.p off args.image.now args.pointers.now args.w) args.to
-          args.w.seg pre.at_len.1 pre.zones_low.3 args.m (mk_disk args.image.now args.pointers.now)
+          args.w.seg pre.at_len.1 pre.zones_low.2 args.m (mk_disk args.image.now args.pointers.now)
           (counted_from args.p (segment_in args.p off args.image.now args.pointers.now args.w) args.w.base
           (group_len args.p args.w.base)) (counted_from args.p
           (segment_in args.p off args.image.now args.pointers.now args.w) (args.w.base + loop.k)
@@ -102,40 +103,41 @@ move_if-next-requires c =
           (group_len args.p args.w.base) (omega (arith, group-len.ensures.0, loop-test.true))) (loop.invariant.4 off)));
     }
 
-pub shape_of-image-then-next : goal.shape_of-image-then-next
-shape_of-image-then-next c =
-    let move-if = c.move_if-next in
+pub shape_of-image-in_err-next : goal.shape_of-image-in_err-next
+shape_of-image-in_err-next c =
+    let move-if = c.move_if in
     let loop = c.loop-k in
     move-if.auto.image ∙ loop.invariant.1
 
-pub shape_of-pointers-then-next : goal.shape_of-pointers-then-next
-shape_of-pointers-then-next c =
-    let move-if = c.move_if-next in
+pub shape_of-pointers-in_err-next : goal.shape_of-pointers-in_err-next
+shape_of-pointers-in_err-next c =
+    let move-if = c.move_if in
     let loop = c.loop-k in
     move-if.auto.pointers ∙ loop.invariant.2
 
-pub shape_of-at-then-next : goal.shape_of-at-then-next
-shape_of-at-then-next c =
+pub shape_of-at-in_err-next : goal.shape_of-at-in_err-next
+shape_of-at-in_err-next c =
     let index-group = c.index_group in
     index-group.auto.at
 
-pub returns-then-next : goal.returns-then-next
-returns-then-next c =
-    let move-if = c.move_if-next in
+pub returns-in_err-next : goal.returns-in_err-next
+returns-in_err-next c =
+    let move-if = c.move_if in
     let loop-test = c.loop-k-test in
     let loop = c.loop-k in
     let group-len = c.group_len-len in
     let args = c.args in
     let pre = c.requires in
-    λ off. upto_cut args.p (ranged args.p pre.p_value) off (segment_in args.p off args.image.now args.pointers.now args.w) args.to args.w.seg
-    pre.at_len.1 pre.zones_low.3 args.m (mk_disk args.image.now args.pointers.now)
+    λ off. rw (only_cut c.from_residual.result c.from_residual.ensures.0)
+    (upto_cut args.p (ranged args.p pre.p_value) off (segment_in args.p off args.image.now args.pointers.now args.w) args.to args.w.seg
+    pre.at_len.1 pre.zones_low.2 args.m (mk_disk args.image.now args.pointers.now)
     (counted_from args.p (segment_in args.p off args.image.now args.pointers.now args.w) args.w.base
     (group_len args.p args.w.base))
     (itself args.p (segment_in args.p off args.image.now args.pointers.now args.w) (args.w.base + loop.k))
     (counted_from args.p (segment_in args.p off args.image.now args.pointers.now args.w) (args.w.base + (loop.k + 1))
     (group_len args.p args.w.base - (loop.k + 1))) loop.next (mk_disk loop.image loop.pointers)
     (upto_as args.p (ranged args.p pre.p_value) off (segment_in args.p off args.image.now args.pointers.now args.w) args.to
-    args.w.seg pre.at_len.1 pre.zones_low.3 args.m (mk_disk args.image.now args.pointers.now)
+    args.w.seg pre.at_len.1 pre.zones_low.2 args.m (mk_disk args.image.now args.pointers.now)
     (counted_from args.p (segment_in args.p off args.image.now args.pointers.now args.w) args.w.base
     (group_len args.p args.w.base)) (counted_from args.p (segment_in args.p off args.image.now args.pointers.now args.w)
     (args.w.base + loop.k) (group_len args.p args.w.base - loop.k))
@@ -143,30 +145,18 @@ returns-then-next c =
     (counted_from args.p (segment_in args.p off args.image.now args.pointers.now args.w) (args.w.base + (loop.k + 1))
     (group_len args.p args.w.base - (loop.k + 1)))) loop.next (mk_disk loop.image loop.pointers)
     (from_step args.p (segment_in args.p off args.image.now args.pointers.now args.w) args.w.base loop.k
-    (group_len args.p args.w.base) (omega (arith, group-len.ensures.0, loop-test.true))) (loop.invariant.4 off)) move-if.result
-    (mk_disk move-if.new.image move-if.new.pointers)
+    (group_len args.p args.w.base) (omega (arith, group-len.ensures.0, loop-test.true))) (loop.invariant.4 off)) (mk_disk move-if.new.image move-if.new.pointers)
     (upto_step args.p (ranged args.p pre.p_value) off args.w pre.at_len.4 args.to args.m
     (mk_disk args.image.now args.pointers.now)
     (counted_from args.p (segment_in args.p off args.image.now args.pointers.now args.w) args.w.base
     (group_len args.p args.w.base)) (counted_from args.p (segment_in args.p off args.image.now args.pointers.now args.w)
     (args.w.base + loop.k) (group_len args.p args.w.base - loop.k)) loop.next (mk_disk loop.image loop.pointers)
-    (loop.invariant.4 off) (λ (y : Segment). itself args.p y (args.w.base + loop.k)) move-if.result
-    (mk_disk move-if.new.image move-if.new.pointers) (move-if.ensures off)) c.if-next.true
-
-pub overflow_add-k : goal.overflow_add-k
-overflow_add-k c =
-    let loop-test = c.loop-k-test in
-    let group-len = c.group_len-len in
-    omega (arith, group-len.ensures.2, loop-test.true)
-
-pub loop-k-smaller : goal.loop-k-smaller
-loop-k-smaller c =
-    let loop-test = c.loop-k-test in
-    omega (arith, loop-test.true)
+    (loop.invariant.4 off) (λ (y : Segment). itself args.p y (args.w.base + loop.k)) (Err (record {}))
+    (mk_disk move-if.new.image move-if.new.pointers) (c.in_err-next.ensures off)))
 
 pub loop-k-preserved : goal.loop-k-preserved
 loop-k-preserved c =
-    let move-if = c.move_if-next in
+    let move-if = c.move_if in
     let loop-test = c.loop-k-test in
     let loop = c.loop-k in
     let group-len = c.group_len-len in
@@ -183,19 +173,19 @@ loop-k-preserved c =
             (counted_from args.p (segment_in args.p [] args.image.now args.pointers.now args.w) args.w.base
             (group_len args.p args.w.base)) (counted_from args.p (segment_in args.p [] args.image.now args.pointers.now args.w)
             (args.w.base + loop.k) (group_len args.p args.w.base - loop.k)) loop.next (mk_disk loop.image loop.pointers)
-            (loop.invariant.4 []) (λ (y : Segment). itself args.p y (args.w.base + loop.k)) move-if.result
-            (mk_disk move-if.new.image move-if.new.pointers) (move-if.ensures [])).number c.if-next.false,
+            (loop.invariant.4 []) (λ (y : Segment). itself args.p y (args.w.base + loop.k)) (Ok c.in_ok-next.next)
+            (mk_disk move-if.new.image move-if.new.pointers) (c.in_ok-next.ensures [])).number,
         itself_few args.p (segment_in args.p [] args.image.now args.pointers.now args.w) (args.w.base + loop.k),
       ),
       λ off. upto_turn args.p (ranged args.p pre.p_value) off (segment_in args.p off args.image.now args.pointers.now args.w) args.to args.w.seg
-          pre.at_len.1 pre.zones_low.3 args.m (mk_disk args.image.now args.pointers.now)
+          pre.at_len.1 pre.zones_low.2 args.m (mk_disk args.image.now args.pointers.now)
           (counted_from args.p (segment_in args.p off args.image.now args.pointers.now args.w) args.w.base
           (group_len args.p args.w.base))
           (itself args.p (segment_in args.p off args.image.now args.pointers.now args.w) (args.w.base + loop.k))
           (counted_from args.p (segment_in args.p off args.image.now args.pointers.now args.w) (args.w.base + (loop.k + 1))
           (group_len args.p args.w.base - (loop.k + 1))) loop.next (mk_disk loop.image loop.pointers)
           (upto_as args.p (ranged args.p pre.p_value) off (segment_in args.p off args.image.now args.pointers.now args.w) args.to args.w.seg
-          pre.at_len.1 pre.zones_low.3 args.m (mk_disk args.image.now args.pointers.now)
+          pre.at_len.1 pre.zones_low.2 args.m (mk_disk args.image.now args.pointers.now)
           (counted_from args.p (segment_in args.p off args.image.now args.pointers.now args.w) args.w.base
           (group_len args.p args.w.base)) (counted_from args.p (segment_in args.p off args.image.now args.pointers.now args.w)
           (args.w.base + loop.k) (group_len args.p args.w.base - loop.k))
@@ -203,15 +193,15 @@ loop-k-preserved c =
           (counted_from args.p (segment_in args.p off args.image.now args.pointers.now args.w) (args.w.base + (loop.k + 1))
           (group_len args.p args.w.base - (loop.k + 1)))) loop.next (mk_disk loop.image loop.pointers)
           (from_step args.p (segment_in args.p off args.image.now args.pointers.now args.w) args.w.base loop.k
-          (group_len args.p args.w.base) (omega (arith, group-len.ensures.0, loop-test.true))) (loop.invariant.4 off)) move-if.result
+          (group_len args.p args.w.base) (omega (arith, group-len.ensures.0, loop-test.true))) (loop.invariant.4 off)) c.in_ok-next.next
           (mk_disk move-if.new.image move-if.new.pointers)
           (upto_step args.p (ranged args.p pre.p_value) off args.w pre.at_len.4 args.to args.m
           (mk_disk args.image.now args.pointers.now)
           (counted_from args.p (segment_in args.p off args.image.now args.pointers.now args.w) args.w.base
           (group_len args.p args.w.base)) (counted_from args.p (segment_in args.p off args.image.now args.pointers.now args.w)
           (args.w.base + loop.k) (group_len args.p args.w.base - loop.k)) loop.next (mk_disk loop.image loop.pointers) (loop.invariant.4 off)
-          (λ (y : Segment). itself args.p y (args.w.base + loop.k)) move-if.result (mk_disk move-if.new.image move-if.new.pointers)
-          (move-if.ensures off)) c.if-next.false,
+          (λ (y : Segment). itself args.p y (args.w.base + loop.k)) (Ok c.in_ok-next.next) (mk_disk move-if.new.image move-if.new.pointers)
+          (c.in_ok-next.ensures off)),
     )
 
 pub shape_of-image : goal.shape_of-image
@@ -231,11 +221,11 @@ returns c =
     let args = c.args in
     let pre = c.requires in
     λ off. upto_done args.p (ranged args.p pre.p_value) off (segment_in args.p off args.image.now args.pointers.now args.w) args.to args.w.seg
-    pre.at_len.1 pre.zones_low.3 args.m (mk_disk args.image.now args.pointers.now)
+    pre.at_len.1 pre.zones_low.2 args.m (mk_disk args.image.now args.pointers.now)
     (counted_from args.p (segment_in args.p off args.image.now args.pointers.now args.w) args.w.base
     (group_len args.p args.w.base)) c.loop-k.next (mk_disk c.loop-k.image c.loop-k.pointers)
     (upto_as args.p (ranged args.p pre.p_value) off (segment_in args.p off args.image.now args.pointers.now args.w) args.to
-    args.w.seg pre.at_len.1 pre.zones_low.3 args.m (mk_disk args.image.now args.pointers.now)
+    args.w.seg pre.at_len.1 pre.zones_low.2 args.m (mk_disk args.image.now args.pointers.now)
     (counted_from args.p (segment_in args.p off args.image.now args.pointers.now args.w) args.w.base
     (group_len args.p args.w.base)) (counted_from args.p (segment_in args.p off args.image.now args.pointers.now args.w)
     (args.w.base + c.loop-k.k) (group_len args.p args.w.base - c.loop-k.k)) [] c.loop-k.next

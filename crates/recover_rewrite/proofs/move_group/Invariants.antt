@@ -18,6 +18,3 @@ invariant-loop-k l =
     → MovedUpto l.p off (segment_in l.p off l.initial.image l.initial.pointers l.w) l.to l.w.seg l.initial.next (mk_disk l.initial.image l.initial.pointers)
     (counted_from l.p (segment_in l.p off l.initial.image l.initial.pointers l.w) l.w.base (group_len l.p l.w.base))
     (counted_from l.p (segment_in l.p off l.initial.image l.initial.pointers l.w) (l.w.base + l.k) (group_len l.p l.w.base - l.k)) l.next (mk_disk l.image l.pointers))
-
-abbrev pub decreases-loop-k : goal.decreases-loop-k
-decreases-loop-k l = l.len - l.k

@@ -4,10 +4,11 @@ use Rattle.law_basic.specs.Geometry.{ranged}
 use Rattle.recover_rewrite.specs.Rewrite.{rewrite_heads, rewrite_whole, rewrite_sealed, rewrite_good, rewrite_fits, rewrite_moves, rewrite-resets, new_head_room}
 use mathlib.Core.List.{[]}
 use mathlib.Core.Path.{◌∙◌}
+use Rattle.disk_zones.specs.Made.{storing_exit}
 use Rattle.recover_rewrite.proofs.rewrite.Goals as goal
 
-pub header_stores-made-requires : goal.header_stores-made-requires
-header_stores-made-requires c =
+pub header_stores-requires : goal.header_stores-requires
+header_stores-requires c =
     let args = c.args in
     let pre = c.requires in record {
       p_value = pre.p_value;
@@ -16,25 +17,25 @@ header_stores-made-requires c =
           (pre.zones_low.1, λ d hd. new_head_room args.p (ranged args.p pre.p_value) args.pointers.now args.to d (pre.by_index_2.1 d hd));
     }
 
-pub returns-then-made : goal.returns-then-made
-returns-then-made c =
-    let header-stores = c.header_stores-made in
+pub returns-in_err-headed : goal.returns-in_err-headed
+returns-in_err-headed c =
+    let header-stores = c.header_stores in
     let args = c.args in
     let pre = c.requires in
-    λ off. rewrite_heads args.p (ranged args.p pre.p_value) off args.count args.seg pre.zones_low.0 args.to pre.zones_low.2 args.serial.0
-    (mk_disk args.image.now args.pointers.now) pre.whole (pre.by_index_3 off) args.copied.0 (pre.by_index_2.0 off) header-stores.result
-    (mk_disk header-stores.new.image header-stores.new.pointers) header-stores.ensures c.if-made.true
+    λ off. storing_exit c.from_residual.result c.from_residual.ensures.0
+    (rewrite_heads args.p (ranged args.p pre.p_value) off args.count args.seg pre.zones_low.0 args.to pre.zones_low.2 args.serial.0
+    (mk_disk args.image.now args.pointers.now) pre.whole (pre.by_index_3 off) args.copied.0 (pre.by_index_2.0 off)
+    (mk_disk header-stores.new.image header-stores.new.pointers) c.in_err-headed.ensures)
 
-pub move_stripes-moved-requires : goal.move_stripes-moved-requires
-move_stripes-moved-requires c =
-    let if1 = c.if-made in
-    let header-stores = c.header_stores-made in
+pub move_stripes-requires : goal.move_stripes-requires
+move_stripes-requires c =
+    let header-stores = c.header_stores in
     let args = c.args in
     let pre = c.requires in record {
       p_value = pre.p_value;
       whole = rewrite_whole args.p (ranged args.p pre.p_value) [] args.count args.seg pre.zones_low.0 args.to pre.zones_low.2
           args.serial.0 (mk_disk args.image.now args.pointers.now) pre.whole (pre.by_index_3 []) args.copied.0 (pre.by_index_2.0 [])
-          header-stores.result (mk_disk header-stores.new.image header-stores.new.pointers) header-stores.ensures if1.false;
+          c.in_ok-headed.headed (mk_disk header-stores.new.image header-stores.new.pointers) c.in_ok-headed.ensures;
       zones_low = (
         pre.zones_low.0,
         pre.zones_low.1,
@@ -43,35 +44,35 @@ move_stripes-moved-requires c =
       by_index = λ off. (
         rewrite_sealed args.p (ranged args.p pre.p_value) off args.count args.seg pre.zones_low.0 args.to pre.zones_low.2
             args.serial.0 (mk_disk args.image.now args.pointers.now) pre.whole (pre.by_index_3 off) args.copied.0
-            (pre.by_index_2.0 off) header-stores.result (mk_disk header-stores.new.image header-stores.new.pointers)
-            header-stores.ensures if1.false (pre.by_index off).0,
+            (pre.by_index_2.0 off) c.in_ok-headed.headed (mk_disk header-stores.new.image header-stores.new.pointers)
+            c.in_ok-headed.ensures (pre.by_index off).0,
         rewrite_good args.p (ranged args.p pre.p_value) off args.count args.seg pre.zones_low.0 args.to pre.zones_low.2
             args.serial.0 (mk_disk args.image.now args.pointers.now) pre.whole (pre.by_index_3 off) args.copied.0
-            (pre.by_index_2.0 off) header-stores.result (mk_disk header-stores.new.image header-stores.new.pointers)
-            header-stores.ensures if1.false (pre.by_index off).1,
+            (pre.by_index_2.0 off) c.in_ok-headed.headed (mk_disk header-stores.new.image header-stores.new.pointers)
+            c.in_ok-headed.ensures (pre.by_index off).1,
       );
       by_index_2 = λ off. rewrite_fits args.p (ranged args.p pre.p_value) off args.count args.seg pre.zones_low.0 args.to pre.zones_low.2
           args.serial.0 (mk_disk args.image.now args.pointers.now) pre.whole (pre.by_index_3 off) args.copied.0
-          (pre.by_index_2.0 off) header-stores.result (mk_disk header-stores.new.image header-stores.new.pointers)
-          header-stores.ensures if1.false;
+          (pre.by_index_2.0 off) c.in_ok-headed.headed (mk_disk header-stores.new.image header-stores.new.pointers)
+          c.in_ok-headed.ensures;
     }
 
-pub returns-then-moved : goal.returns-then-moved
-returns-then-moved c =
-    let move-stripes = c.move_stripes-moved in
-    let if1 = c.if-made in
-    let header-stores = c.header_stores-made in
+pub returns-in_err-moved : goal.returns-in_err-moved
+returns-in_err-moved c =
+    let move-stripes = c.move_stripes in
+    let header-stores = c.header_stores in
     let args = c.args in
     let pre = c.requires in
-    λ off. rewrite_moves args.p (ranged args.p pre.p_value) off args.count args.seg pre.zones_low.0 args.to pre.zones_low.2 args.serial.0
-    (mk_disk args.image.now args.pointers.now) pre.whole (pre.by_index_3 off) args.copied.0 (pre.by_index_2.0 off) header-stores.result
-    (mk_disk header-stores.new.image header-stores.new.pointers) header-stores.ensures if1.false move-stripes.result
-    (mk_disk move-stripes.new.image move-stripes.new.pointers) (move-stripes.ensures off) c.if-moved.true
+    λ off. storing_exit c.from_residual-in_err-moved.result c.from_residual-in_err-moved.ensures.0
+    (rewrite_moves args.p (ranged args.p pre.p_value) off args.count args.seg pre.zones_low.0 args.to pre.zones_low.2 args.serial.0
+    (mk_disk args.image.now args.pointers.now) pre.whole (pre.by_index_3 off) args.copied.0 (pre.by_index_2.0 off) c.in_ok-headed.headed
+    (mk_disk header-stores.new.image header-stores.new.pointers) c.in_ok-headed.ensures
+    (mk_disk move-stripes.new.image move-stripes.new.pointers) (c.in_err-moved.ensures off))
 
 pub reset_stores-requires : goal.reset_stores-requires
 reset_stores-requires c =
-    let move-stripes = c.move_stripes-moved in
-    let header-stores = c.header_stores-made in
+    let move-stripes = c.move_stripes in
+    let header-stores = c.header_stores in
     let pre = c.requires in record {
       p_value = pre.p_value;
       pointers_len = (
@@ -83,14 +84,12 @@ reset_stores-requires c =
 pub returns : goal.returns
 returns c =
     let reset_stores_holds = c.reset_stores in
-    let if2 = c.if-moved in
-    let move-stripes = c.move_stripes-moved in
-    let if1 = c.if-made in
-    let header-stores = c.header_stores-made in
+    let move-stripes = c.move_stripes in
+    let header-stores = c.header_stores in
     let args = c.args in
     let pre = c.requires in
     λ off. rewrite-resets args.p (ranged args.p pre.p_value) off args.count args.seg pre.zones_low.0 args.to pre.zones_low.2 args.serial.0
-    (mk_disk args.image.now args.pointers.now) pre.whole (pre.by_index_3 off) args.copied.0 (pre.by_index_2.0 off) header-stores.result
-    (mk_disk header-stores.new.image header-stores.new.pointers) header-stores.ensures if1.false move-stripes.result
-    (mk_disk move-stripes.new.image move-stripes.new.pointers) (move-stripes.ensures off) if2.false reset_stores_holds.result
+    (mk_disk args.image.now args.pointers.now) pre.whole (pre.by_index_3 off) args.copied.0 (pre.by_index_2.0 off) c.in_ok-headed.headed
+    (mk_disk header-stores.new.image header-stores.new.pointers) c.in_ok-headed.ensures c.in_ok-moved.moved
+    (mk_disk move-stripes.new.image move-stripes.new.pointers) (c.in_ok-moved.ensures off) reset_stores_holds.result
     (mk_disk move-stripes.new.image reset_stores_holds.new.pointers) (reset_stores_holds.ensures move-stripes.new.image)

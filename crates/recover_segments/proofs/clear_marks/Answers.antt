@@ -18,12 +18,6 @@ pub bounds-marks-i : goal.bounds-marks-i
 unfolding offline_len
 bounds-marks-i c = omega (arith, c.loop-i.invariant.1, c.loop-i-test.true, c.offline_len-n.ensures.0, c.requires.z_in_bounds)
 
-pub overflow_add-i : goal.overflow_add-i
-overflow_add-i c = omega arith
-
-pub loop-i-smaller : goal.loop-i-smaller
-loop-i-smaller c = omega arith
-
 pub loop-i-preserved : goal.loop-i-preserved
 unfolding offline_len
 loop-i-preserved c =

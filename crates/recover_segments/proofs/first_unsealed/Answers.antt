@@ -1,55 +1,31 @@
--- `first_unsealed`: the first unsealed segment from z on is the first of all; one found ends it, and at Z there is none. Assumes nothing.
-use mathlib.Core.Path.{sym, ◌∙◌}
+-- `first_unsealed`: the first zone that passes the test. Assumes nothing.
+use mathlib.Core.Path.{refl, sym, ap, ◌∙◌}
+use mathlib.Core.Bool.{Bool, false, not, ◌&&◌}
+use mathlib.Core.List.{List}
+use Prim.Native.Nat.{ℕ, ◌*◌}
 use native.Mathlib.Omega.{arith}
-use Rattle.spec.specs.Drives.{view_of}
-use Rattle.disk_gather.specs.Found.{lowest_turn, lowest_pass, lowest_end, lowest_start}
+use lib.ListN.{get_or}
+use borrow.Author.Rules.{rules}
+use Rattle.std.specs.List.{range_with_len}
+use Rattle.std.proofs.lemmas.Iterator.{YieldsList-from_range}
+use Rattle.std.proofs.lemmas.Iterator.Adapters.{option_map_id}
+use Rattle.std.proofs.lemmas.Iterator.Search.{find_from_yields_List}
+use Rattle.spec.specs.Bytes.{part}
+use Rattle.spec.specs.Drives.{view_of, sealed_in, seg}
+use Rattle.spec.specs.Lists.{keep}
+use Rattle.law_basic.specs.Ranges.{keep-below_same}
+use Rattle.disk_gather.specs.Ranges.{range_below, opt_first, find_opt_first}
 use Rattle.recover_segments.specs.Kept.{unsealed_at, unsealed_is}
 use Rattle.recover_segments.proofs.first_unsealed.Goals as goal
 
-pub loop-z-init : goal.loop-z-init
-loop-z-init c =
-    let a = c.args in
-    (omega arith, λ off im h k r. lowest_start (unsealed_at a.p (view_of a.p off im a.pointers.now) a.gone) a.p.Z a.p.Z)
-
-pub is_unsealed-requires : goal.is_unsealed-requires
-is_unsealed-requires c = record { p_value = c.requires.p_value; pointers_len = (c.requires.pointers_len.0, c.requires.pointers_len.1, c.loop-z-test.true) }
-
-pub returns-then-is_unsealed : goal.returns-then-is_unsealed
-returns-then-is_unsealed c =
+pub returns-clause-first : goal.returns-clause-first
+returns-clause-first c = λ off im h k r.
     let a = c.args in
     let p = a.p in
-    let l = c.loop-z in record {
-      upper_bound = omega (arith, c.loop-z-test.true);
-      by_index = λ off im h k r. let v = view_of p off im a.pointers.now in
-          sym (lowest_turn (unsealed_at p v a.gone) p.Z l.z p.Z c.loop-z-test.true
-          (sym (unsealed_is p v a.gone a.rows.now a.kept.now r k l.z c.loop-z-test.true) ∙ sym (c.is_unsealed.ensures off im h) ∙ c.if-is_unsealed.true))
-          ∙ l.invariant.1 off im h k r;
-    }
-
-pub overflow_add-z : goal.overflow_add-z
-overflow_add-z c = omega arith
-
-pub loop-z-smaller : goal.loop-z-smaller
-loop-z-smaller c = omega arith
-
-pub loop-z-preserved : goal.loop-z-preserved
-loop-z-preserved c =
-    let a = c.args in
-    let p = a.p in
-    let l = c.loop-z in (
-      omega (arith, c.loop-z-test.true),
-      λ off im h k r. let v = view_of p off im a.pointers.now in
-          sym (lowest_pass (unsealed_at p v a.gone) p.Z l.z p.Z c.loop-z-test.true
-          (sym (unsealed_is p v a.gone a.rows.now a.kept.now r k l.z c.loop-z-test.true) ∙ sym (c.is_unsealed.ensures off im h) ∙ c.if-is_unsealed.false))
-          ∙ l.invariant.1 off im h k r,
-    )
-
-pub returns : goal.returns
-returns c =
-    let a = c.args in
-    let p = a.p in
-    let l = c.loop-z in record {
-      upper_bound = omega arith;
-      by_index = λ off im h k r. sym
-          (lowest_end (unsealed_at p (view_of p off im a.pointers.now) a.gone) p.Z l.z p.Z (omega (arith, c.loop-z-test.false))) ∙ l.invariant.1 off im h k r;
-    }
+    let n = p.Z in
+    let v = view_of p off im a.pointers.now in
+    let f : ℕ → Bool = λ z. get_or a.kept.now z false && not (sealed_in p v a.gone (seg (part (8 * z) 8 a.rows.now))) in
+    sym (option_map_id c.find.result)
+    ∙ find_from_yields_List f _ _ c.find.result c.find.ensures.ran (YieldsList-from_range 0 n n refl (omega arith)) (λ x b q m. search rules)
+    ∙ find_opt_first f (range_with_len 0 n) ∙ ap (λ (l : List ℕ). opt_first (keep f l)) (range_below n)
+    ∙ ap opt_first (keep-below_same f (unsealed_at p v a.gone) n (unsealed_is p v a.gone a.rows.now a.kept.now r k))

@@ -28,12 +28,6 @@ offset_bounds-zones-d c = omega (arith, (ranged c.args.p c.requires.p_value).dri
 pub bounds-zones-d : goal.bounds-zones-d
 bounds-zones-d c = omega (arith, (ranged c.args.p c.requires.p_value).drives_high)
 
-pub overflow_add-d : goal.overflow_add-d
-overflow_add-d c = omega arith
-
-pub loop-d-smaller : goal.loop-d-smaller
-loop-d-smaller c = omega arith
-
 pub loop-d-preserved : goal.loop-d-preserved
 loop-d-preserved c =
     let a = c.args in

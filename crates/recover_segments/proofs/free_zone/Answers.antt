@@ -1,20 +1,19 @@
--- `free_zone`: a zone below Z is the first, whatever stands for none; at Z there is none. Assumes nothing.
-use mathlib.Core.Path.{◌≡◌, sym, ◌∙◌, subst}
+-- `free_zone`: the lowest free zone, if there is one. Assumes nothing.
+use mathlib.Core.Path.{ap, ◌∙◌, subst, sym}
+use mathlib.Core.Bool.{Bool}
 use Prim.Native.Nat.{ℕ, ◌<◌}
 use native.Mathlib.Omega.{arith}
+use Rattle.std.specs.Option.{unwrap_or}
+use Rattle.std.specs.Prelude.{Option}
+use Rattle.spec.specs.Lists.{keep, below}
 use Rattle.law_basic.specs.Geometry.{ranged}
-use Rattle.recover_segments.specs.Taken.{free_in, first_else, first_nil}
+use Rattle.disk_gather.specs.Ranges.{opt_first_or}
+use Rattle.recover_segments.specs.Taken.{free_in, first_low}
 use Rattle.recover_segments.proofs.free_zone.Goals as goal
-
-pub returns-then-z-p : goal.returns-then-z-p
-returns-then-z-p c =
-    let a = c.args in
-    let q = c.lowest_free-z.ensures.0 in
-    (q ∙ sym (first_else (free_in a.p a.offline.now a.marks.now a.drive) a.p.Z (subst (λ (n : ℕ). n < a.p.Z) q c.if-z-p.true)), c.if-z-p.true)
 
 pub returns : goal.returns
 returns c =
     let a = c.args in
-    let q = c.lowest_free-z.ensures in
-    let z : c.lowest_free-z.result ≡ a.p.Z = omega (arith, q.1, c.if-z-p.false) in
-    (sym (first_nil (free_in a.p a.offline.now a.marks.now a.drive) a.p.Z (sym q.0 ∙ z)), omega (arith, (ranged a.p c.requires.p_value).zones_low))
+    let f : ℕ → Bool = free_in a.p a.offline.now a.marks.now a.drive in
+    let e = c.unwrap_or.ensures ∙ ap (λ (o : Option ℕ). unwrap_or o 0) c.lowest_free.ensures ∙ opt_first_or 0 (keep f (below a.p.Z)) in
+    (e, subst (λ (z : ℕ). z < a.p.Z) (sym e) (first_low f a.p.Z (omega (arith, (ranged a.p c.requires.p_value).zones_low))))

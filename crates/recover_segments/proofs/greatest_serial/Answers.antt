@@ -10,21 +10,6 @@ use Rattle.recover_segments.proofs.greatest_serial.Goals as goal
 pub loop-z-init : goal.loop-z-init
 loop-z-init c = let a = c.args in (omega arith, sym (greatest_first a.kept.now a.serials.now))
 
-pub bounds-kept-z : goal.bounds-kept-z
-bounds-kept-z c = omega arith
-
-pub offset_bounds-serials-z : goal.offset_bounds-serials-z
-offset_bounds-serials-z c = omega arith
-
-pub bounds-serials-z : goal.bounds-serials-z
-bounds-serials-z c = omega arith
-
-pub overflow_add-z : goal.overflow_add-z
-overflow_add-z c = omega arith
-
-pub loop-z-smaller : goal.loop-z-smaller
-loop-z-smaller c = omega arith
-
 pub loop-z-preserved : goal.loop-z-preserved
 loop-z-preserved c =
     let l = c.loop-z in

@@ -17,12 +17,6 @@ zone_on-requires c = record { p_value = c.requires.p_value; drive_lt_n = c.loop-
 pub mark-requires : goal.mark-requires
 mark-requires c = record { p_value = c.requires.p_value; z_in_bounds = (omega (arith, c.requires.z_in_bounds, c.loop-d.invariant.1), c.loop-d-test.true) }
 
-pub overflow_add-d : goal.overflow_add-d
-overflow_add-d c = omega arith
-
-pub loop-d-smaller : goal.loop-d-smaller
-loop-d-smaller c = omega arith
-
 pub loop-d-preserved : goal.loop-d-preserved
 loop-d-preserved c =
     let a = c.args in

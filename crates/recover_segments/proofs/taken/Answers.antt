@@ -13,9 +13,6 @@ loop-z-init c =
     let a = c.args in
     (omega arith, refl, marks_start a.p a.kept.now a.rows.now c.clear_marks.new.marks c.clear_marks.ensures)
 
-pub bounds-kept-z : goal.bounds-kept-z
-bounds-kept-z c = omega (arith, c.requires.z_in_bounds.0, c.loop-z-test.true)
-
 pub mark_if-requires : goal.mark_if-requires
 mark_if-requires c =
     let k = c.clear_marks.auto.marks in record {
@@ -23,12 +20,6 @@ mark_if-requires c =
       z_in_bounds =
           (omega (arith, c.requires.z_in_bounds.2, c.loop-z.invariant.1, k), c.requires.z_in_bounds.1, c.loop-z-test.true);
     }
-
-pub overflow_add-z : goal.overflow_add-z
-overflow_add-z c = omega arith
-
-pub loop-z-smaller : goal.loop-z-smaller
-loop-z-smaller c = omega arith
 
 pub loop-z-preserved : goal.loop-z-preserved
 loop-z-preserved c =

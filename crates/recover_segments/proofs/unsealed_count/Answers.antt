@@ -22,15 +22,6 @@ loop-z-init c =
 pub is_unsealed-requires : goal.is_unsealed-requires
 is_unsealed-requires c = record { p_value = c.requires.p_value; pointers_len = (c.requires.pointers_len.0, c.requires.pointers_len.1, c.loop-z-test.true) }
 
-pub overflow_add-n : goal.overflow_add-n
-overflow_add-n c = omega arith
-
-pub overflow_add-z : goal.overflow_add-z
-overflow_add-z c = omega arith
-
-pub loop-z-smaller : goal.loop-z-smaller
-loop-z-smaller c = omega arith
-
 pub loop-z-preserved : goal.loop-z-preserved
 loop-z-preserved c =
     let a = c.args in

@@ -17,6 +17,3 @@ invariant-loop-z l =
     × ((off im : List ℕ) → length im ≡ image_len l.p → Keeps l.p (view_of l.p off im l.pointers) l.gone l.kept → FlagsRows l.p (view_of l.p off im l.pointers) l.gone l.rows
     → l.n + length (keep (unsealed_at l.p (view_of l.p off im l.pointers) l.gone) (up_from l.z (l.p.Z - l.z))) ≡ length
     (keep (unsealed_at l.p (view_of l.p off im l.pointers) l.gone) (below l.p.Z)))
-
-abbrev pub decreases-loop-z : goal.decreases-loop-z
-decreases-loop-z l = l.p.Z - l.z

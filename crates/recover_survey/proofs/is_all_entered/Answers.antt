@@ -35,14 +35,6 @@ returns-then-not-is_entered c =
           absurd (not_both i.result (i.ensures.value (λ e. f loop.d c.loop-d-test.true e)) (not-true i.result c.if-not-is_entered.true-raw)));
     }
 
-pub overflow_add-d : goal.overflow_add-d
-overflow_add-d c =
-    omega arith
-
-pub loop-d-smaller : goal.loop-d-smaller
-loop-d-smaller c =
-    omega arith
-
 pub loop-d-preserved : goal.loop-d-preserved
 loop-d-preserved c =
     let a = c.args in

@@ -1,6 +1,5 @@
 -- `survey_stripes`: the tally is of the stripes below base + k; one turn adds stripe k, and counted and loose are at most base + k. Assumes nothing.
 use mathlib.Core.Path.{◌≡◌, sym, subst}
-use mathlib.Core.Bool.{false}
 use Prim.Native.Nat.{ℕ, ◌+◌, ◌≤◌, ◌<◌}
 use native.Mathlib.Omega.{arith}
 use Rattle.recover_groups.specs.Groups.{group_len, segment_in}
@@ -37,14 +36,6 @@ survey_stripe-next-requires c =
     let l = c.loop-k in
     let e : l.k < group_len p w.base = subst (λ (x : ℕ). l.k < x) c.group_len-len.ensures.0 c.loop-k-test.true in
     record { p_value = h.p_value; image_len = (h.image_len.0, h.image_len.1, h.image_len.2, h.image_len.3, e); counted_bound = (l.invariant.1, l.invariant.2) }
-
-pub overflow_add-k : goal.overflow_add-k
-overflow_add-k c =
-    omega arith
-
-pub loop-k-smaller : goal.loop-k-smaller
-loop-k-smaller c =
-    omega arith
 
 pub loop-k-preserved : goal.loop-k-preserved
 loop-k-preserved c =

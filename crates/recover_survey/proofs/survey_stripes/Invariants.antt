@@ -2,7 +2,7 @@
 use mathlib.Core.Path.{◌≡◌}
 use mathlib.Core.Bool.{false}
 use mathlib.Core.List.{List}
-use Prim.Native.Nat.{ℕ, ◌+◌, ◌-◌, ◌≤◌}
+use Prim.Native.Nat.{ℕ, ◌+◌, ◌≤◌}
 use Rattle.recover_groups.specs.Groups.{segment_in}
 use Rattle.recover_survey.specs.Stripes.{Shown, Tallied}
 use Rattle.recover_survey.proofs.survey_stripes.Given as goal
@@ -12,6 +12,3 @@ invariant-loop-k l =
     (l.k ≤ l.len) × (l.next.counted ≤ l.w.base + l.k) × (l.next.loose ≤ l.w.base + l.k) × (l.next.bad ≡ false → l.initial.next.bad ≡ false)
     × ((off ps : List ℕ) → Shown l.p off l.image ps l.w l.at → Tallied l.p l.w.gone (segment_in l.p off l.image ps l.w) l.w.base l.initial.next
     → Tallied l.p l.w.gone (segment_in l.p off l.image ps l.w) (l.w.base + l.k) l.next)
-
-abbrev pub decreases-loop-k : goal.decreases-loop-k
-decreases-loop-k l = l.len - l.k

@@ -64,12 +64,6 @@ pub bounds-at-j : goal.bounds-at-j
 bounds-at-j c =
     omega (arith, (ranged c.args.p c.requires.p_value).drives_high, c.requires.drive_lt_n.0, c.entry_at.ensures.1, c.loop-i.invariant.1)
 
-pub overflow_add-i : goal.overflow_add-i
-overflow_add-i c = omega arith
-
-pub loop-i-smaller : goal.loop-i-smaller
-loop-i-smaller c = omega arith
-
 pub loop-i-preserved : goal.loop-i-preserved
 loop-i-preserved c =
     let l = c.loop-i in

@@ -1,7 +1,7 @@
 -- Entry by entry: each offset below the pointer is entered where the table says; the law entered has that step, all-entered the end.
 use mathlib.Core.Path.{◌≡◌}
 use mathlib.Core.List.{List}
-use Prim.Native.Nat.{ℕ, ◌-◌, ◌≤◌}
+use Prim.Native.Nat.{ℕ, ◌≤◌}
 use lib.ListN.{length}
 use Rattle.spec.specs.Drives.{view_of}
 use Rattle.spec.specs.Segments.{remaining, recs_on}
@@ -18,6 +18,3 @@ invariant-loop-i l =
     × ((off im : List ℕ) → Ground l.p off im l.pointers l.w.gone l.compact → In l.w.seg (remaining l.p (view_of l.p off im l.pointers) l.w.gone)
     → SegmentShown l.p (view_of l.p off im l.pointers) l.w.gone l.w.seg l.compact
     → Entering l.p l.drive l.w.base (group_recs l.p l.w.base (recs_on (segment_in l.p off im l.pointers l.w) l.drive)) l.initial.at l.at l.i)
-
-abbrev pub decreases-loop-i : goal.decreases-loop-i
-decreases-loop-i l = l.n - l.i

@@ -23,12 +23,6 @@ index_any-requires c =
           (c.loop-d-test.true, q.zones_low.0, q.zones_low.1, q.zones_low.2);
     }
 
-pub overflow_add-d : goal.overflow_add-d
-overflow_add-d c = omega arith
-
-pub loop-d-smaller : goal.loop-d-smaller
-loop-d-smaller c = omega arith
-
 pub loop-d-preserved : goal.loop-d-preserved
 loop-d-preserved c =
     let a = c.args in

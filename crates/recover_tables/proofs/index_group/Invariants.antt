@@ -1,7 +1,7 @@
 -- Drive by drive: the rows of the drives below d are right; with all of them the group is indexed, since no record is at fault (seg-clean).
 use mathlib.Core.Path.{◌≡◌}
 use mathlib.Core.List.{List}
-use Prim.Native.Nat.{ℕ, ◌-◌, ◌≤◌, ◌<◌}
+use Prim.Native.Nat.{ℕ, ◌≤◌, ◌<◌}
 use lib.ListN.{length}
 use Rattle.spec.specs.Drives.{view_of}
 use Rattle.spec.specs.Segments.{remaining, recs_on}
@@ -17,6 +17,3 @@ invariant-loop-d l =
     × ((off im : List ℕ) → Ground l.p off im l.pointers l.w.gone l.compact → In l.w.seg (remaining l.p (view_of l.p off im l.pointers) l.w.gone)
     → SegmentShown l.p (view_of l.p off im l.pointers) l.w.gone l.w.seg l.compact
     → (e : ℕ) → e < l.d → Row l.p l.w.base (group_recs l.p l.w.base (recs_on (segment_in l.p off im l.pointers l.w) e)) e l.at)
-
-abbrev pub decreases-loop-d : goal.decreases-loop-d
-decreases-loop-d l = l.p.N - l.d

@@ -65,12 +65,6 @@ load_if-next-requires c =
           (walk_cands a.p a.w.gone (segment_in a.p a.offline.now a.image.now a.pointers.now a.w) (up_from a.w.base l.k)) l.invariant.2.tells q.known;
     }
 
-pub overflow_add-k : goal.overflow_add-k
-overflow_add-k c = omega arith
-
-pub loop-k-smaller : goal.loop-k-smaller
-loop-k-smaller c = omega arith
-
 pub loop-k-preserved : goal.loop-k-preserved
 loop-k-preserved c =
     let a = c.args in

@@ -1,6 +1,6 @@
 -- `load_segments`: the segments below z are toured, and next is the open one's count where it is below z and remains; one turn tours z. Assumes nothing.
 use mathlib.Core.Path.{◌≡◌, refl, sym, ap, ◌∙◌, subst}
-use mathlib.Core.Bool.{Bool, true, false}
+use mathlib.Core.Bool.{Bool, false}
 use Prim.Native.Nat.{ℕ, ◌<◌}
 use native.Mathlib.Omega.{arith}
 use lib.ListN.{length, get_or}
@@ -51,12 +51,6 @@ load_segment-h-requires c =
       z_lt_z = (i, q.keeps.1 l.z i);
       toured = (l.invariant.4, l.invariant.3 ∙ q.addresses_value.2);
     }
-
-pub overflow_add-z : goal.overflow_add-z
-overflow_add-z c = omega arith
-
-pub loop-z-smaller : goal.loop-z-smaller
-loop-z-smaller c = omega arith
 
 pub loop-z-preserved : goal.loop-z-preserved
 loop-z-preserved c =

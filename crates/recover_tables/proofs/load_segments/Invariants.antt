@@ -1,7 +1,7 @@
 -- `load_segments`: the segments below z are toured, and next is the open one's count where it is below z and remains; one turn tours z. Assumes nothing.
 use mathlib.Core.Path.{◌≡◌}
 use mathlib.Core.Bool.{true}
-use Prim.Native.Nat.{◌-◌, ◌≤◌, ◌<◌}
+use Prim.Native.Nat.{◌≤◌, ◌<◌}
 use lib.ListN.{length}
 use Rattle.spec.specs.Drives.{view_of}
 use Rattle.spec.specs.Segments.{segment_of, counted}
@@ -15,6 +15,3 @@ invariant-loop-z l =
     × Toured l.p (view_of l.p l.offline l.image l.pointers) l.gone l.z l.compact l.addresses l.h.stamp.0 × (l.h.next ≤ l.p.S)
     × (l.opened < l.z → remains_at l.p (view_of l.p l.offline l.image l.pointers) l.gone l.opened ≡ true
     → l.h.next ≡ length (counted l.p l.gone (segment_of l.p (view_of l.p l.offline l.image l.pointers) l.gone (seg_at l.p (view_of l.p l.offline l.image l.pointers) l.gone l.opened))))
-
-abbrev pub decreases-loop-z : goal.decreases-loop-z
-decreases-loop-z l = l.p.Z - l.z

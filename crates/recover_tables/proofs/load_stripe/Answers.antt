@@ -93,12 +93,6 @@ offer-requires c =
       known = tells_known a.p v a.w.gone a.compact.now a.addresses.now l.addresses (first_cands a.p a.w.gone g s l.i) l.invariant.2 q.known;
     }
 
-pub overflow_add-i : goal.overflow_add-i
-overflow_add-i c = omega arith
-
-pub loop-i-smaller : goal.loop-i-smaller
-loop-i-smaller c = omega arith
-
 pub loop-i-preserved : goal.loop-i-preserved
 loop-i-preserved c =
     let a = c.args in

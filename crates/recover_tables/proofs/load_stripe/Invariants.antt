@@ -1,6 +1,6 @@
 -- `load_stripe`: the first i data records are told to the table, and most is the greatest of stamp and theirs; one turn offers record i. Assumes nothing.
 use mathlib.Core.Path.{◌≡◌}
-use Prim.Native.Nat.{◌+◌, ◌-◌, max, ◌≤◌}
+use Prim.Native.Nat.{◌+◌, max, ◌≤◌}
 use lib.ListN.{length}
 use Rattle.spec.specs.Drives.{view_of}
 use Rattle.spec.specs.Segments.{greatest_stamp}
@@ -15,6 +15,3 @@ invariant-loop-i l =
     × Tells l.p (view_of l.p l.offline l.image l.pointers) l.w.gone l.compact l.initial.addresses l.addresses
     (first_cands l.p l.w.gone (segment_in l.p l.offline l.image l.pointers l.w) (l.w.base + l.k) l.i)
     × (l.most.0 ≡ max l.initial.most.0 (greatest_stamp (first_cands l.p l.w.gone (segment_in l.p l.offline l.image l.pointers l.w) (l.w.base + l.k) l.i)))
-
-abbrev pub decreases-loop-i : goal.decreases-loop-i
-decreases-loop-i l = l.n - l.i
