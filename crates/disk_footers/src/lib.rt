@@ -25,7 +25,8 @@ fn records_of(p: Params, i: usize) -> usize
     per.min(rest)
 }
 
-// 01, What a zone holds: footer block i, made from the zone's spares.
+// 01, What a zone holds: footer block i, made from the zone's spares. A spare is held apart from image and block, so that the compiler asks nothing
+// before it moves it.
 pub fn make_footer(p: Params, image: &[u8], drive: usize, zone: usize, i: usize, block: &mut [u8])
     requires p_value { in_range p ≡ true }
     requires image_len { (length image.now ≡ image_len p) × (drive < p.N) × (zone < p.Z) × (i < footers p) × (length block.old ≡ p.B) }
@@ -39,7 +40,9 @@ pub fn make_footer(p: Params, image: &[u8], drive: usize, zone: usize, i: usize,
     let mut at = disk_stored::spare_byte(p, drive, zone, 1 + i * per);
     for j in 0..n {
         let end = at + disk_shape::SPARE;
-        disk_blocks::copy_part(block, disk_shape::SPARE * j, &image[at..end]);
+        let mut spare = [0u8; disk_shape::SPARE];
+        disk_blocks::copy(&mut spare, &image[at..end]);
+        disk_blocks::copy_part(block, disk_shape::SPARE * j, &spare);
         at += p.B + disk_shape::SPARE;
     }
 }

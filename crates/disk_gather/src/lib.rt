@@ -339,17 +339,18 @@ fn chain_zone(
     links[b] = z as u16;
 }
 
-// From the last zone down, all of a drive.
+// From the last zone down, all of a drive. The loop reads a copy of the drives, which lies in registers.
 fn chain_drive(drives: &Drives<'_>, drive: usize, mask: usize, heads: &mut [u64], links: &mut [u16])
     requires drive_lt_n { (drive < drives.now.p.N) × (mask ≤ 2047) × (drives.now.p.Z ≤ length heads.old) × (mask + 1 + drives.now.p.Z ≤ length links.old) }
     requires by_index { (b : ℕ) → b ≤ mask → 1024 ≤ get_or links.old b 0 }
     ensures { Chained drives.now.p (viewed drives.now) mask drive 0 heads.new links.new }
 {
-    let step = zone_len(drives.p);
-    let mut at = disk_shape::block_byte(drives.p, drive, drives.p.Z - 1, 0) + step;
-    for z in (0..drives.p.Z).rev() {
+    let own = *drives;
+    let step = zone_len(own.p);
+    let mut at = disk_shape::block_byte(own.p, drive, own.p.Z - 1, 0) + step;
+    for z in (0..own.p.Z).rev() {
         at -= step;
-        chain_zone(drives, drive, mask, z, at, heads, links);
+        chain_zone(&own, drive, mask, z, at, heads, links);
     }
 }
 
@@ -525,7 +526,7 @@ fn gather_zone(index: &Index<'_>, image: &[u8], z: usize, serial: Serial, rows: 
     on_all(index.p, segment, index.gone)
 }
 
-// 01, Restart, 1: which segments are left, and the rows of those that lead.
+// 01, Restart, 1: which segments are left, and the rows of those that lead. The loop reads a copy of the index, as in the loops below.
 fn gather_left(
     index: &Index<'_>,
     image: &[u8],
@@ -549,8 +550,9 @@ fn gather_left(
         → Serials index.now.p (view_of index.now.p off image.now ps) index.now.gone serials.now
         → LeftFlags index.now.p (view_of index.now.p off image.now ps) index.now.gone left.new }
 {
-    for z in 0..index.p.Z {
-        left[z] = gather_zone(index, image, z, Serial(serials[z]), rows);
+    let own = *index;
+    for z in 0..own.p.Z {
+        left[z] = gather_zone(&own, image, z, Serial(serials[z]), rows);
     }
 }
 
@@ -604,8 +606,9 @@ fn keep_flags(index: &Index<'_>, image: &[u8], flags: &[bool], out: &mut [bool])
         → LeftFlags index.now.p (view_of index.now.p off image.now ps) index.now.gone flags.now
         → Keeps index.now.p (view_of index.now.p off image.now ps) index.now.gone out.new }
 {
-    for z in 0..index.p.Z {
-        out[z] = is_kept(index, image, flags, z);
+    let own = *index;
+    for z in 0..own.p.Z {
+        out[z] = is_kept(&own, image, flags, z);
     }
 }
 
@@ -672,11 +675,12 @@ fn flag_repeats(index: &Index<'_>, image: &[u8], out: &mut [bool])
         → IndexOf (view_of index.now.p off image.now ps) index.now
         → Repeats index.now.p (view_of index.now.p off image.now ps) index.now.gone out.new }
 {
-    let step = zone_len(index.p);
-    let mut at = disk_shape::block_byte(index.p, index.low, 0, 0);
-    for z in 0..index.p.Z {
-        let s = serial_here(index.p, image, at);
-        out[z] = is_repeated(index, s);
+    let own = *index;
+    let step = zone_len(own.p);
+    let mut at = disk_shape::block_byte(own.p, own.low, 0, 0);
+    for z in 0..own.p.Z {
+        let s = serial_here(own.p, image, at);
+        out[z] = is_repeated(&own, s);
         at += step;
     }
 }

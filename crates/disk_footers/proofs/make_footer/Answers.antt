@@ -118,14 +118,14 @@ overflow_mul-j c =
     let room = row_room p r _ l.j (sym spare_len_lem) (omega (arith, n.0, t)) in
     omega (arith, room, r.block_high)
 
-pub slice_bounds-copy_part-count : goal.slice_bounds-copy_part-count
-slice_bounds-copy_part-count c = omega arith
+pub slice_bounds-copy-count : goal.slice_bounds-copy-count
+slice_bounds-copy-count c = omega arith
 
-pub slice_bounds-copy_part-start : goal.slice_bounds-copy_part-start
-slice_bounds-copy_part-start c = omega arith
+pub slice_bounds-copy-start : goal.slice_bounds-copy-start
+slice_bounds-copy-start c = omega arith
 
-pub slice_bounds-copy_part-end : goal.slice_bounds-copy_part-end
-slice_bounds-copy_part-end c =
+pub slice_bounds-copy-end-in-loop-j : goal.slice_bounds-copy-end-in-loop-j
+slice_bounds-copy-end-in-loop-j c =
     let a = c.args in
     let l = c.loop-j in
     let records-of = c.records_of-n in
@@ -227,7 +227,7 @@ loop-j-preserved c =
       omega (arith, l.invariant.2, u, spare_len_lem, byte_next p a.drive a.zone (1 + a.i * per_footer p + l.j), ap (λ (x : ℕ). place_byte p (place_of p a.drive a.zone x)) b₁),
       footer_turn p r ss (spares_by-count p r a.drive a.zone h.1 h.2 im h.0) (spare_long p r a.drive a.zone h.1 h.2 im h.0)
           l.block copy-part.new.dst _ _ a.i l.j (sym spare_len_lem) l.invariant.3 o (omega (arith, n.0, t))
-          (part_lent l.at _ im ∙ ap (λ (x : ℕ). part l.at x im) (sym spare_len_lem) ∙ d) copy-part.ensures,
+          (c.copy.ensures ∙ part_lent l.at _ im ∙ ap (λ (x : ℕ). part l.at x im) (sym spare_len_lem) ∙ d) copy-part.ensures,
     )
 
 pub shape_of-block : goal.shape_of-block

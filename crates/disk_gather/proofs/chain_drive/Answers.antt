@@ -10,8 +10,8 @@ use Rattle.disk_gather.specs.Found.{head_back}
 use Rattle.disk_gather.specs.Index.{Chained, chain_none}
 use Rattle.disk_gather.proofs.chain_drive.Goals as goal
 
-pub overflow_sub-drives : goal.overflow_sub-drives
-overflow_sub-drives c =
+pub overflow_sub-own : goal.overflow_sub-own
+overflow_sub-own c =
     omega (arith, (ranged c.args.drives.now.p c.args.drives.now.sound).zones_low)
 
 pub block_byte-requires-clause-drive_lt_n : goal.block_byte-requires-clause-drive_lt_n
