@@ -53,7 +53,7 @@ module _ (p : Params) (off : List ℕ) (k : Disk) (m : Memory) where
   unfolding close_checks
   close_lengths_fail e = sym (rule_fails 2 (not (lent_ok_of p off k m)) (rest 1) (ap not e))
 
-  close_lengths_pass : lent_ok_of p off k m ≡ true → close_from 2 ≡ close_from 1
+  pub close_lengths_pass : lent_ok_of p off k m ≡ true → close_from 2 ≡ close_from 1
   unfolding close_checks
   close_lengths_pass e = sym (rule_passes 2 (not (lent_ok_of p off k m)) (rest 1) (ap not e))
 
@@ -62,7 +62,7 @@ module _ (p : Params) (off : List ℕ) (k : Disk) (m : Memory) where
   unfolding close_checks view_of
   close_list_fails r e = list_fails p (seen p off k) (rest 3) r e
 
-  close_list_passes : none ≡ list_rule_of p off → close_from 4 ≡ close_from 2
+  pub close_list_passes : none ≡ list_rule_of p off → close_from 4 ≡ close_from 2
   unfolding close_checks view_of
   close_list_passes e = sym (list_passes p (seen p off k) (rest 3) e)
 

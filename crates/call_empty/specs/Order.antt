@@ -78,7 +78,7 @@ module _ (p : Params) (off : List ℕ) (k : Disk) (m : Memory) (a : ℕ) where
   unfolding empty_checks
   empty_lengths_fail e = sym (rule_fails 2 (not (lent_ok_of p off k m)) (rest 1) (ap not e))
 
-  empty_lengths_pass : lent_ok_of p off k m ≡ true → empty_first 2 ≡ empty_first 1
+  pub empty_lengths_pass : lent_ok_of p off k m ≡ true → empty_first 2 ≡ empty_first 1
   unfolding empty_checks
   empty_lengths_pass e = sym (rule_passes 2 (not (lent_ok_of p off k m)) (rest 1) (ap not e))
 
@@ -87,7 +87,7 @@ module _ (p : Params) (off : List ℕ) (k : Disk) (m : Memory) (a : ℕ) where
   unfolding empty_checks view_of
   empty_list_fails r e = list_fails p (seen p off k) (rest 3) r e
 
-  empty_list_passes : none ≡ list_rule_of p off → empty_first 4 ≡ empty_first 2
+  pub empty_list_passes : none ≡ list_rule_of p off → empty_first 4 ≡ empty_first 2
   unfolding empty_checks view_of
   empty_list_passes e = sym (list_passes p (seen p off k) (rest 3) e)
 

@@ -150,7 +150,7 @@ module _ (p : Params) (off : List ℕ) (k : Disk) (m : Memory) (d s : ℕ) where
   unfolding land_checks
   land_lengths_fail e = sym (rule_fails 2 (not (lent_ok_of p off k m)) (rest 1) (ap not e))
 
-  land_lengths_pass : lent_ok_of p off k m ≡ true → land_from 2 ≡ land_from 1
+  pub land_lengths_pass : lent_ok_of p off k m ≡ true → land_from 2 ≡ land_from 1
   unfolding land_checks
   land_lengths_pass e = sym (rule_passes 2 (not (lent_ok_of p off k m)) (rest 1) (ap not e))
 

@@ -59,7 +59,7 @@ module _ (p : Params) (off : List ℕ) (k : Disk) (m : Memory) (a n : ℕ) where
   unfolding read_checks
   read_block_fails e f = sym (rule_fails 2 (not (lent_ok_of p off k m && eqb n p.B)) (rest 1) (λ j. not (e j && ne_eqb n p.B f j)))
 
-  read_lengths_pass : lent_ok_of p off k m ≡ true → n ≡ p.B → read_from 2 ≡ read_from 1
+  pub read_lengths_pass : lent_ok_of p off k m ≡ true → n ≡ p.B → read_from 2 ≡ read_from 1
   unfolding read_checks
   read_lengths_pass e f = sym (rule_passes 2 (not (lent_ok_of p off k m && eqb n p.B)) (rest 1) (λ j. not (e j && eq-eqb n p.B f j)))
 
@@ -68,7 +68,7 @@ module _ (p : Params) (off : List ℕ) (k : Disk) (m : Memory) (a n : ℕ) where
   unfolding read_checks view_of
   read_list_fails r e = list_fails p (seen p off k) (rest 3) r e
 
-  read_list_passes : none ≡ list_rule_of p off → read_from 4 ≡ read_from 2
+  pub read_list_passes : none ≡ list_rule_of p off → read_from 4 ≡ read_from 2
   unfolding read_checks view_of
   read_list_passes e = sym (list_passes p (seen p off k) (rest 3) e)
 

@@ -46,7 +46,7 @@ module _ (p : Params) (off : List ℕ) (k : Disk) (m : Memory) (a : ℕ) (b : Li
   unfolding write_checks_in
   write_block_fails e f = sym (rule_fails 2 (not (lent_ok_of p off k m) || not (eqb (length b) p.B)) (rest 1) (λ j. not (e j) || not (ne_eqb (length b) p.B f j)))
 
-  write_lengths_pass : lent_ok_of p off k m ≡ true → length b ≡ p.B → write_from 2 ≡ write_from 1
+  pub write_lengths_pass : lent_ok_of p off k m ≡ true → length b ≡ p.B → write_from 2 ≡ write_from 1
   unfolding write_checks_in
   write_lengths_pass e f = sym (rule_passes 2 (not (lent_ok_of p off k m) || not (eqb (length b) p.B)) (rest 1) (λ j. not (e j) || not (eq-eqb (length b) p.B f j)))
 
@@ -55,7 +55,7 @@ module _ (p : Params) (off : List ℕ) (k : Disk) (m : Memory) (a : ℕ) (b : Li
   unfolding write_checks_in view_of
   write_list_fails r e = list_fails p (seen p off k) (rest 3) r e
 
-  write_list_passes : none ≡ list_rule_of p off → write_from 4 ≡ write_from 2
+  pub write_list_passes : none ≡ list_rule_of p off → write_from 4 ≡ write_from 2
   unfolding write_checks_in view_of
   write_list_passes e = sym (list_passes p (seen p off k) (rest 3) e)
 
