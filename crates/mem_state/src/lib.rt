@@ -18,6 +18,14 @@ pub fn stripe_in(state: State, i: usize) -> usize
     state.numbers[i] as usize
 }
 
+// Eighth i holds no stripe.
+pub fn is_free(state: State, i: usize) -> bool
+    requires { i < 8 }
+    ensures { result ≡ is_free state i }
+{
+    mem_rows::is_free(state.filled, i)
+}
+
 // ---- questions about all eighths
 
 // How many stripes are in flight.
