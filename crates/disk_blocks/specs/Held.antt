@@ -1,10 +1,10 @@
 -- Copies and exclusive ors through a local array, and by pieces (01, What a zone holds: parity). Assumes nothing.
-use Rattle.std.specs.Prelude.{◌≡◌, refl, List, [], ◌∷◌, ◌++◌, ℕ, ◌+◌, ◌≤◌, ◌<◌, length, take, set}
-use Rattle.std.proofs.Common.{sym, ap, ap₂, ◌∙◌, arith, add-one, take-suc-set}
+use Rattle.std.specs.Prelude.{◌≡◌, refl, List, [], ◌∷◌, ◌++◌, ℕ, ◌+◌, ◌-◌, ◌≤◌, ◌<◌, length, take, set}
+use Rattle.std.proofs.Common.{sym, ap, ap₂, ◌∙◌, inl, inr, arith, add-one, take-suc-set}
 use Rattle.std.specs.Int.Bits.{bit_xor}
 use Rattle.spec.specs.Bytes.{part, splice, xors}
-use Rattle.law_basic.specs.Splice.{length_part, part-add, part-splice_above, splice_next}
-use Rattle.law_basic.specs.Turns.{length-xors-part}
+use Rattle.law_basic.specs.Splice.{length_part, part-add, part-splice-below, part-splice_above, splice_next}
+use Rattle.law_basic.specs.Turns.{Apart, length-xors-part}
 
 -- one byte more in the array
 pub held_more : (l s t : List ℕ) (i v : ℕ) → i < length l → take i l ≡ s → s ++ (v ∷ []) ≡ t → take (i + 1) (set l i v) ≡ t
@@ -38,3 +38,19 @@ module _ (l l' m : List ℕ) (a b i n : ℕ) (e : l' ≡ splice l a (xors (part 
       ap₂ (λ (x y : List ℕ). splice x (a + i) y) e (ap₂ xors f k) ∙ ap (λ (x : ℕ). splice (splice l a done) (a + x) t) (sym length_done)
       ∙ splice_next l a done t (omega (arith, length_done)) ∙ ap (splice l a) (sym (xors-append (part a i l) (part b i m) (part (a + i) n l) (part (b + i) n m) z)
       ∙ ap₂ xors (sym (part-add a i n l)) (sym (part-add b i n m)))
+
+-- the same of the other bytes of one buffer
+pub still_beside : (l l' : List ℕ) (a b i n k : ℕ) → l' ≡ splice l a (xors (part a i l) (part b i l)) → Apart a b k → i + n ≤ k → a + k ≤ length l → b + k ≤ length l
+    → part (b + i) n l' ≡ part (b + i) n l
+still_beside l l' a b i n k e (inl p) h f g =
+    let s : List ℕ = xors (part a i l) (part b i l) in
+    let z : length s ≡ i = length-xors-part l (part b i l) a i (omega arith) in
+    ap (part (b + i) n) e ∙ part-splice_above l a s (omega arith) (b + i) n (omega arith) (omega arith)
+still_beside l l' a b i n k e (inr p) h f g =
+    let s : List ℕ = xors (part a i l) (part b i l) in
+    let z : length s ≡ i = length-xors-part l (part b i l) a i (omega arith) in
+    ap (part (b + i) n) e ∙ part-splice-below l a s (omega arith) (b + i) n (omega arith)
+
+pub apart_rest : (a b n i : ℕ) → Apart a b n → i ≤ n → Apart (a + i) (b + i) (n - i)
+apart_rest a b n i (inl p) h = inl (omega arith)
+apart_rest a b n i (inr p) h = inr (omega arith)

@@ -1,7 +1,7 @@
 -- What the bytes say of headers and zones, and what flags and serials say of the segments that remain (01, Restart, 1 and 2; 02, item 4). Assumes nothing.
-use Rattle.std.specs.Prelude.{◌≡◌, List, map, Bool, cond, ◌&&◌, length, set}
+use Rattle.std.specs.Prelude.{◌≡◌, List, ◌++◌, map, Bool, cond, ◌&&◌, length, set, replicate}
 use Rattle.std.proofs.Math.Path.{sym, ap}
-use Rattle.std.proofs.Common.{subst, ◌∙◌, suc-mul, add-mul, add-one, arith, get_or-set_same, get_or-set_other}
+use Rattle.std.proofs.Common.{subst, ◌∙◌, append-nil, suc-mul, add-mul, add-one, arith, get_or-set_same, get_or-set_other, ext_get_or}
 use Rattle.std.proofs.Math.Bool.{true, false, not}
 use Prim.Native.Nat.{ℕ, ◌+◌, ◌-◌, ◌*◌, ◌≤◌, ◌<◌}
 use Rattle.std.proofs.Math.Decide.{ℕ_discrete, dec_lt}
@@ -9,20 +9,21 @@ use Rattle.std.proofs.Math.Arith.{lt_of_le-ne}
 use borrow.Author.Tests.{eq-eqb, ne_eqb, eqb-true, lt-ltb, le-ltb, ltb-true}
 use Rattle.std.proofs.Math.Dec.{eqb, ltb}
 use Rattle.std.proofs.Math.ListN.{get_or}
+use Rattle.std.proofs.lemmas.List.{length-map}
 use Rattle.spec.specs.declared.Params.{Params}
 use Rattle.spec.specs.declared.Seg.{Seg}
 use Rattle.spec.specs.Bytes.{part, splice}
 use Rattle.spec.specs.Drives.{View, view_of, mk_disk, chunk_at, pointer_of, is_good, zone_on, same_seg, seg}
 use Rattle.spec.specs.Layout.{header_serial, header_copied}
-use Rattle.spec.specs.Lists.{up_from, below, all, any, keep, first_or}
+use Rattle.spec.specs.Lists.{up_from, below, all, any, keep, first_or, pad_to}
 use Rattle.spec.specs.Params.{capacity, unit_len, zone_len, image_len, pointers_len, place_of, place_byte, present}
 use Rattle.spec.specs.Segments.{low_drive, is_used, serial_in, lowest_bearing, zone_for, seg_for, leads, gathered, header_at, left_by1, is_copy, remaining}
 use Rattle.law_basic.specs.Geometry.{Ranged, capacity-low, image_high, block_within}
 use Rattle.law_basic.specs.Ranges.{Test, test, keep-below_same, and_left, and_right, and_both, up_from_step, up_from_end, below-start}
-use Rattle.law_basic.specs.Ranges.{keep_hit, keep_miss, keep_none, keep-map, any-map}
+use Rattle.law_basic.specs.Ranges.{keep_hit, keep_miss, keep_none, keep-map, length-below, get_d_map-below, any-map}
 use Rattle.law_basic.specs.Ranges.Test.{yes!, no! }
-use Rattle.law_basic.specs.Segs.{seg_same, seg-other, with_zones_long}
-use Rattle.law_basic.specs.Splice.{part-splice, part-splice-below, part-splice_above}
+use Rattle.law_basic.specs.Segs.{seg_same, seg-other, filled_to, with_zones_long}
+use Rattle.law_basic.specs.Splice.{length_part, get_d_part, part-splice, part-splice-below, part-splice_above}
 use Rattle.law_views.specs.Views.{pointer_view, block_view}
 use Rattle.law_scans.specs.Scans.{any-keep}
 use Rattle.law_drives.specs.Gather.{borne}
@@ -250,6 +251,18 @@ row_other l s y z hz hy n q = go (dec_lt y z)
 
 pub row_same : (l s : List ℕ) (z : ℕ) → 8 * z + 8 ≤ length l → length s ≡ 8 → part (8 * z) 8 (splice l (8 * z) s) ≡ s
 row_same l s z hz n = ap (λ (k : ℕ). part (8 * z) k (splice l (8 * z) s)) (sym n) ∙ part-splice l (8 * z) s (omega arith)
+
+-- a row read entry by entry
+pub row_is : (l : List ℕ) (z : ℕ) → 8 * z + 8 ≤ length l → filled_to (λ d. get_or l (8 * z + d) 0) 8 ≡ part (8 * z) 8 l
+unfolding filled_to pad_to
+row_is l z h =
+    let f : ℕ → ℕ = λ d. get_or l (8 * z + d) 0 in
+    let n : length (map f (below 8)) ≡ 8 = length-map (below 8) f ∙ length-below 8 in
+    let m : length (part (8 * z) 8 l) ≡ 8 = length_part (8 * z) 8 l h in
+    let t : map f (below 8) ++ replicate (8 - length (map f (below 8))) 0 ≡ map f (below 8) =
+    ap (λ (k : ℕ). map f (below 8) ++ replicate (8 - k) 0) n ∙ append-nil (map f (below 8)) in
+    t ∙ ext_get_or 0 (map f (below 8)) (part (8 * z) 8 l) (n ∙ sym m)
+    (λ i k. let u : i < 8 = omega arith in get_d_map-below f 8 i 0 u ∙ sym (get_d_part (8 * z) 8 l i u))
 
 -- one more row, where a segment leads
 pub rows_more : (p : Params) (v : View) (gone z : ℕ) (l l' : List ℕ) → p.N ≤ 8 → 8 * p.Z ≤ length l → z < p.Z

@@ -1,6 +1,6 @@
 -- An index of the serials in a drive's headers: buckets by serial, each with its zones that take part, rising; and what it says of the lowest zone that bears a serial
 -- (02, item 4). Assumes nothing.
-use Rattle.std.specs.Prelude.{◌≡◌, List, [], ◌∷◌, ◌++◌, Bool, ◌&&◌, ℕ, ◌+◌, ◌-◌, ◌*◌, ◌≤◌, ◌<◌, leb, ltb, length, take, drop, set}
+use Rattle.std.specs.Prelude.{◌≡◌, List, [], ◌∷◌, ◌++◌, Bool, ◌&&◌, ℕ, ◌+◌, ◌-◌, ◌*◌, ◌≤◌, ◌<◌, leb, ltb, length, take, drop, set, replicate}
 use Rattle.std.proofs.Math.Path.{sym, ap}
 use Rattle.std.proofs.Common.{subst, ◌∙◌, mul-add, suc-mul, add-one, lit≤, length-set}
 use Rattle.std.proofs.Math.Bool.{true, false}
@@ -12,6 +12,7 @@ use Rattle.std.specs.Int.Bits.{bit_and}
 use Rattle.std.proofs.lemmas.Nat.{and_le_r}
 use Rattle.std.proofs.Math.Dec.{eqb}
 use Rattle.std.proofs.Math.ListN.{get_or}
+use Rattle.std.proofs.lemmas.List.{get_or-replicate}
 use Rattle.std.proofs.Math.Seq.{get_or-set_same, get_or-set_other}
 use Rattle.spec.specs.declared.Params.{Params}
 use Rattle.spec.specs.Bytes.{part, splice}
@@ -300,6 +301,9 @@ pub chain_lent : (p : Params) (v : View) (mask d a b n : ℕ) (hs ls : List ℕ)
 chain_lent p v mask d a b n hs ls x =
     subst (λ (l : List ℕ). Chained p v mask d 0 l (take (b + n - b) (drop b ls))) (sym (part_lent a p.Z hs))
     (subst (λ (l : List ℕ). Chained p v mask d 0 (part a p.Z hs) l) (sym (part_lent b n ls)) x)
+
+pub blank_new : (p : Params) (mask n : ℕ) → p.N * (mask + 1 + p.Z) ≤ n → Blank p mask 0 (replicate n 65535)
+blank_new p mask n h i a b = let e = get_or-replicate {A = ℕ} n i 65535 0 (omega arith) in omega (arith, e)
 
 module _ (p : Params) (v : View) (gone mask k : ℕ) (hs ls : List ℕ) where
   pub chain_gone : is_in gone k ≡ true → ChainedTo p v gone mask k hs ls → ChainedTo p v gone mask (k + 1) hs ls

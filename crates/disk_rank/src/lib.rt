@@ -1,5 +1,5 @@
 // Which record of an address holds (01, The calls, last paragraph).
-#![tactic(auto, unfolding(spec::specs::Rank::beats, spec::specs::Rank::better, spec::specs::Rank::place_or))]
+#![tactic(auto, unfolding(spec::specs::Rank::beats))]
 
 ghost use Rattle.std.specs.Prelude.{◌≡◌};
 ghost use Rattle.spec.specs.Rank.{beats, better, place_or};
@@ -30,6 +30,7 @@ pub fn beats(a: Cand, b: Cand) -> bool
 }
 
 // The better of what holds so far, if anything does, and one more.
+#[tactic(auto, using(crate::specs::Ranked::better_first, crate::specs::Ranked::better_new, crate::specs::Ranked::better_old))]
 pub fn better(b: Option<Cand>, c: Cand) -> Option<Cand>
     ensures { ranked_best result ≡ better (ranked_best b) (ranked c) }
 {
@@ -40,6 +41,7 @@ pub fn better(b: Option<Cand>, c: Cand) -> Option<Cand>
 }
 
 // 01, The array: its place, or never written.
+#[tactic(auto, using(crate::specs::Ranked::place_none, crate::specs::Ranked::place_some))]
 pub fn place_or(b: Option<Cand>) -> Place
     ensures { result.0 ≡ place_or (ranked_best b) }
 {

@@ -34,6 +34,16 @@ module _ (p : Params) (off : List ℕ) where
   unfolding list_rule_of ruled
   list_fits e f = ap₂ (λ (x y : Bool). ruled 10 x (ruled 1 y none)) e f
 
+  -- neither test holds where it is none
+  pub list_clear : list_rule_of p off ≡ none → (few_good p off ≡ false) × (above_narrow p off ≡ false)
+  unfolding list_rule_of ruled
+  list_clear e = go (few_good p off) (above_narrow p off) e
+    where
+      go : (f n : Bool) → ruled 10 f (ruled 1 n none) ≡ none → (f ≡ false) × (n ≡ false)
+      go true n e = cc
+      go false true e = cc
+      go false false e = (refl, refl)
+
 -- ---- a count that stops where the zones are enough
 
 -- fewer zones have no more addresses
@@ -98,13 +108,10 @@ module _ (p : Params) (r : Ranged p) where
 -- the checks of the list in front of others, by what `list_rule` answers
 module _ (p : Params) (v : View) (cs : List Check) where
   pub list_passes : none ≡ list_rule_of p v.offline → first_refusal (list_rules p v ++ cs) ≡ first_refusal cs
-  unfolding first_refusal ruled list_rule_of
-  list_passes e = go (few_good p v.offline) (above_narrow p v.offline) e
-    where
-      go : (f n : Bool) → none ≡ ruled 10 f (ruled 1 n none) → ruled 10 f (ruled 1 n (first_refusal cs)) ≡ first_refusal cs
-      go true n e = cc
-      go false true e = cc
-      go false false e = refl
+  unfolding first_refusal ruled
+  list_passes e =
+      let (f, n) = list_clear p v.offline (sym e) in
+      ap₂ (λ (x y : Bool). ruled 10 x (ruled 1 y (first_refusal cs))) f n
 
   pub list_fails : (a : Answer) → some a ≡ list_rule_of p v.offline → some a ≡ first_refusal (list_rules p v ++ cs)
   unfolding first_refusal ruled list_rule_of

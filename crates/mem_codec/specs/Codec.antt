@@ -75,12 +75,17 @@ module _ (e : ℕ → List ℕ) (w : ℕ) (long : (n : ℕ) → length (e n) ≡
   pub written_all : (at i : ℕ) (l l' ns : List ℕ) → length ns ≤ i → l' ≡ splice l at (flat e (take i ns)) → l' ≡ splice l at (flat e ns)
   written_all at i l l' ns h p = p ∙ ap (λ (x : List ℕ). splice l at (flat e x)) (take_all i ns h)
 
--- a byte stored is a section of width 1
+-- a byte stored, and bytes, are sections of width 1
 pub byte_written : (l : List ℕ) (at v : ℕ) → v < 256 → at < length l → set l at v ≡ splice l at (to_le 1 v)
 unfolding to_le
 byte_written l at v h g =
     ap (λ (i : ℕ). set l i v) (sym (add-zero at)) ∙ wrote_one l l at 0 [] v (sym (splice-nil l at)) refl (omega arith)
     ∙ ap (λ (x : ℕ). splice l at (x ∷ [])) (sym (mod-eq_of_lt h))
+
+pub bytes_same : (ns : List ℕ) → ((k : ℕ) → k < length ns → get_or ns k 0 < 256) → flat (to_le 1) ns ≡ ns
+unfolding flat to_le
+bytes_same [] f = refl
+bytes_same (n ∷ ns) f = ap₂ ◌∷◌ (mod-eq_of_lt (f 0 (omega arith))) (bytes_same ns (λ k h. f (suc k) (omega arith)))
 
 -- ---- the sections of the state
 

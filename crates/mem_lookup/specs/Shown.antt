@@ -6,13 +6,14 @@ use Rattle.spec.specs.Lists.{up_from, cons_if, keep, is_nil, first_or}
 use Rattle.spec.specs.Memory.{compact_at, shown_at}
 use Rattle.spec.specs.Params.{image_len, pointers_len}
 use Rattle.spec.specs.declared.Params.{Params}
-use Rattle.law_basic.specs.Ranges.{up_from_step, keep_hit, keep_miss, keep_up_from_same}
+use Rattle.law_basic.specs.Ranges.{up_from_step, keep_hit, keep_miss, keep_up_from_same, and-false}
 use Rattle.law_views.specs.Views.{pointer_view}
 use Rattle.law_drives.specs.Members.{keep-keep}
 use borrow.Author.Tests.{lt-ltb, le-ltb}
 use mathlib.Core.List.{List, [], ◌∷◌}
 use Rattle.std.proofs.Math.Path.{sym}
 use Rattle.std.proofs.Common.{ap, ◌∙◌, div-add-mod', arith}
+use Rattle.std.proofs.Math.Decide.{dec_lt}
 
 -- the offset is a data offset below pointer n, and its entry is the stripe's
 unfoldable pub shows : Params → ℕ → List ℕ → ℕ → ℕ → ℕ → ℕ → Bool
@@ -74,6 +75,33 @@ module _ (p : Params) (n : ℕ) (cs : List ℕ) (d z s end m : ℕ) (below! : (o
   unfolding shows
   shows-past h g =
       and_skip (ltb o m) (ltb o p.S) (ltb (1 + o) n) (eqb (get_or cs (compact_at p d z o) 0) (compact_entry p s)) (lt-ltb o m g) (sym (below! o) ∙ le-ltb o end h)
+
+-- nothing lies below pointer 0
+pub none_below : (a b n o : ℕ) → n ≡ 0 → ltb o 0 ≡ (ltb o a && ltb o b && ltb (1 + o) n)
+none_below a b n o e =
+    le-ltb o 0 (omega arith) ∙ sym (and-false (ltb o a && ltb o b) (ltb (1 + o) n) (le-ltb (1 + o) n (omega (arith, e))))
+
+pub below_pointer : (o n : ℕ) → (n ≡ 0 → ⊥) → ltb o (n - 1) ≡ ltb (1 + o) n
+below_pointer o n h = go (dec_lt o (n - 1))
+  where
+    go : Dec (o < n - 1) → ltb o (n - 1) ≡ ltb (1 + o) n
+    go (yes k) = lt-ltb o (n - 1) k ∙ sym (lt-ltb (1 + o) n (omega arith))
+    go (no k) = le-ltb o (n - 1) (omega arith) ∙ sym (le-ltb (1 + o) n (omega arith))
+
+-- the lower of two bounds
+pub lower_right : (a b : ℕ) → b ≤ a → (o : ℕ) → ltb o b ≡ (ltb o a && ltb o b)
+lower_right a b h o = go (dec_lt o b)
+  where
+    go : Dec (o < b) → ltb o b ≡ (ltb o a && ltb o b)
+    go (yes k) = sym (ap (λ (x : Bool). x && ltb o b) (lt-ltb o a (omega arith)))
+    go (no k) = le-ltb o b (omega arith) ∙ sym (and-false (ltb o a) (ltb o b) (le-ltb o b (omega arith)))
+
+pub lower_left : (a b : ℕ) → a ≤ b → (o : ℕ) → ltb o a ≡ (ltb o a && ltb o b)
+lower_left a b h o = go (dec_lt o a)
+  where
+    go : Dec (o < a) → ltb o a ≡ (ltb o a && ltb o b)
+    go (yes k) = lt-ltb o a k ∙ sym (λ j. lt-ltb o a k j && lt-ltb o b (omega arith) j)
+    go (no k) = le-ltb o a (omega arith) ∙ sym (ap (λ (x : Bool). x && ltb o b) (le-ltb o a (omega arith)))
 
 -- the row of a zone in the compact table
 pub row_entry : (p : Params) (d z o row : ℕ) → row ≡ compact_at p d z 0 → row + o ≡ compact_at p d z o
