@@ -15,11 +15,11 @@ use Rattle.spec.specs.Lists.{up_from, below, any, keep, is_nil, first_or}
 use Rattle.spec.specs.Params.{drives_of}
 use Rattle.spec.specs.Restart.{free_zones, free_seg, none_free_of}
 use Rattle.spec.specs.Segments.{remaining, Segment, segment_of, segments}
-use Rattle.law_basic.specs.Ranges.{and_left, and_right, any_append, any-map, below-snoc, keep-below_same}
+use Rattle.law_basic.specs.Ranges.{and_left, and_right, any_append, any-map, below-snoc, keep-below_same, nil_is}
 use Rattle.law_basic.specs.Segs.{with_same}
 use Rattle.law_scans.specs.Scans.{any-keep}
 use Rattle.law_views.specs.Pointers.{index_drive, index_zone}
-use Rattle.law_drives.specs.Members.{In, any_cong, keep_in, keep-keep, below_in}
+use Rattle.law_drives.specs.Members.{In, any_cong, keep_in, keep-keep, below_in, first_any}
 use Rattle.law_drives.specs.Segs.{seg_is}
 use Rattle.law_drives.specs.Tests.{and_false_right, not_so, same_test}
 use Rattle.disk_gather.specs.Flags.{Keeps, FlagsRows}
@@ -160,6 +160,28 @@ module _ (p : Params) (off im ps : List ℕ) (gone : ℕ) (l : List Bool) (t : T
   unfolding none_free_of drives_of
   none_free = any_cong (λ d. is_nil (free_zones p v (segments p v gone) d)) (λ d. is_nil (keep (free_in p off l d) (below p.Z))) (below p.N)
       (λ d m. ap is_nil (free_list d (below_in p.N d m)))
+
+-- the first, or none
+pub taken_nil_first : (f : ℕ → Bool) (n : ℕ) → first_or n (keep f (below n)) ≡ n → is_nil (keep f (below n)) ≡ true
+taken_nil_first f n e = go (keep f (below n)) (λ a m. below_in n a (keep_in f (below n) a m).0) e
+  where
+    go : (l : List ℕ) → ((a : ℕ) → In a l → a < n) → first_or n l ≡ n → is_nil l ≡ true
+    go [] h q = unfold is_nil in refl
+    go (a ∷ l) h q = unfold first_or in absurd (let x : a < n = h a (inl refl) in let y : a ≡ n = q in let z : ⊥ = omega arith in z)
+
+pub some_first : (f : ℕ → Bool) (n m : ℕ) → first_or n (keep f (below n)) ≡ m → m < n → is_nil (keep f (below n)) ≡ false
+some_first f n m e h = go (keep f (below n)) e
+  where
+    go : (l : List ℕ) → first_or n l ≡ m → is_nil l ≡ false
+    go [] q = unfold first_or in absurd (let y : n ≡ m = q in let z : ⊥ = omega arith in z)
+    go (a ∷ l) q = unfold is_nil in refl
+
+pub first_else : (f : ℕ → Bool) (n : ℕ) → first_or n (keep f (below n)) < n → first_or 0 (keep f (below n)) ≡ first_or n (keep f (below n))
+first_else f n h = first_any 0 n (keep f (below n)) (some_first f n (first_or n (keep f (below n))) refl h)
+
+pub first_nil : (f : ℕ → Bool) (n : ℕ) → first_or n (keep f (below n)) ≡ n → first_or 0 (keep f (below n)) ≡ 0
+unfolding first_or
+first_nil f n e = ap (first_or 0) (nil_is (keep f (below n)) (taken_nil_first f n e))
 
 -- it is below
 pub first_low : (f : ℕ → Bool) (n : ℕ) → 0 < n → first_or 0 (keep f (below n)) < n

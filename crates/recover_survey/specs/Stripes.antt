@@ -1,5 +1,5 @@
 -- The tally of a segment's first stripes, stripe by stripe (01, Restart, 3; Refusals, 9). Assumes nothing.
-use Rattle.std.specs.Prelude.{◌≡◌, List, [], ◌∷◌, ◌++◌, map, Bool, ◌&&◌, ◌||◌, ℕ, suc, ◌+◌, ◌≤◌, ◌<◌, length}
+use Rattle.std.specs.Prelude.{◌≡◌, List, [], ◌∷◌, ◌++◌, map, Bool, ◌&&◌, ◌||◌, ℕ, suc, ◌+◌, min, ◌≤◌, ◌<◌, length}
 use Rattle.std.proofs.Math.Path.{refl, sym, ap, ap₂}
 use Rattle.std.proofs.Common.{◌∙◌, append-nil, eq-eqb, ne_eqb, arith}
 use Rattle.std.proofs.Math.Bool.{true, false, not}
@@ -14,7 +14,7 @@ use Rattle.recover_groups.specs.declared.Group.{Group}
 use Rattle.recover_groups.specs.Bases.{bases_step, bases_end}
 use Rattle.recover_groups.specs.Chunks.{recs_short, chunks_counts, chunks_some}
 use Rattle.recover_groups.specs.Faulty.{any_swap, recs_fault_groups, recs_fault_is, no_group_fault}
-use Rattle.recover_groups.specs.Groups.{bases_from, group_fault, recs_fault, Indexed, segment_in}
+use Rattle.recover_groups.specs.Groups.{group_len, bases_from, group_fault, recs_fault, Indexed, segment_in}
 use Rattle.spec.specs.declared.Params.{Params}
 use Rattle.spec.specs.Drives.{View, view_of, sealed_in}
 use Rattle.spec.specs.Faults.{stripe_fault, bad_rec, stored_bad, decoded_bad, address_fault}
@@ -277,6 +277,11 @@ module _ (p : Params) (v : View) (gone : ℕ) (sgm : Seg) (s n m : ℕ) (en : n 
   loose_counts e h = loose_some (λ q. absurd (not_both (counts p gone (segment_of p v gone sgm) s) (counts_all q) e)) h
 
 -- ---- from group to group
+
+-- the stripes up to the next group
+pub group_next : (p : Params) (base : ℕ) → base < p.S → base + group_len p base ≡ min (base + p.G) p.S
+unfolding group_len
+group_next p base h = omega arith
 
 -- the faults of the groups left, where this one has none
 pub groups_left_lem : (p : Params) (gone : ℕ) (g : Segment) (base : ℕ) → 0 < p.G → base < p.S → group_fault p gone g base ≡ false

@@ -1,8 +1,10 @@
 -- What the walk rests on at a group and at a stripe, and the candidate that it builds (01, Restart, 3). Assumes nothing.
-use Rattle.std.specs.Prelude.{◌≡◌, List, [], ◌∷◌, ◌++◌, Bool, true, cond, ◌&&◌, ℕ, ◌+◌, max, ◌≤◌, ◌<◌, eqb, length}
-use Rattle.std.proofs.Common.{sym, ap, ◌∙◌, subst, eq-eqb, ne_eqb, arith}
+use Rattle.std.specs.Prelude.{◌≡◌, List, [], ◌∷◌, ◌++◌, Bool, true, cond, ◌&&◌, ℕ, ◌+◌, max, ◌≤◌, ◌<◌, eqb, length, set, replicate}
+use Rattle.std.proofs.Common.{sym, ap, ◌∙◌, subst, zero-add, eq-eqb, ne_eqb, arith}
 use Rattle.std.proofs.Math.Decide.{ℕ_discrete}
+use Rattle.std.proofs.lemmas.List.{length-replicate, replicate-append-replicate}
 use Rattle.spec.specs.declared.Params.{Params}
+use Rattle.spec.specs.Bytes.{splice}
 use Rattle.spec.specs.Drives.{View, view_of, zone_on}
 use Rattle.spec.specs.Layout.{data_drive, Rec}
 use Rattle.spec.specs.Lists.{is_in}
@@ -12,6 +14,7 @@ use Rattle.spec.specs.Segments.{remaining, Segment, segment_of, offset_on, count
 use Rattle.law_basic.specs.Geometry.{Ranged}
 use Rattle.law_basic.specs.Ranges.{Test, test, and_both}
 use Rattle.law_basic.specs.Ranges.Test.{yes!, no! }
+use Rattle.law_basic.specs.Splice.{splice-nil, splice_all, wrote_one}
 use Rattle.recover_groups.specs.declared.Group.{Group}
 use Rattle.recover_groups.specs.Bases.{group_len_le, group_len_fits}
 use Rattle.recover_groups.specs.Chunks.{counts-entered}
@@ -26,6 +29,10 @@ use Rattle.law_drives.specs.Tests.{and_false_right, cond_true, cond_false}
 use Rattle.recover_tables.specs.Walk.{first_cands, most_append, most_one, tells_join, first_more}
 use Rattle.spec.specs.declared.Seg.{Seg}
 use Rattle.law_basic.specs.Segs.{ZonesLow}
+
+-- no group begins behind the most stripes of a segment and the most of a group
+abbrev pub last_base : ℕ
+last_base = 65535 + 256
 
 -- the index is that of the group, whose stripe k counts
 abbrev pub ReadsStripe : Params → List ℕ → Group → List ℕ → ℕ → Type 0
@@ -124,6 +131,19 @@ next_now u g n m f b e h k l = go (ℕ_discrete g u)
     go : Dec (g ≡ u) → m ≡ f u
     go (yes q) = e ∙ cond_true (b && eqb g u) (f g) n (and_both b (eqb g u) (k q) (eq-eqb g u q)) ∙ ap f q
     go (no q) = e ∙ cond_false (b && eqb g u) (f g) n (and_false_right b (eqb g u) (ne_eqb g u q)) ∙ h (omega arith)
+
+-- ---- every address never written
+
+pub fill_none : (l : List ℕ) → l ≡ splice l 0 (replicate 0 255)
+fill_none l = sym (splice-nil l 0)
+
+pub fill_turn : (l l' : List ℕ) (i : ℕ) → i < length l → l' ≡ splice l 0 (replicate i 255) → set l' i 255 ≡ splice l 0 (replicate (i + 1) 255)
+fill_turn l l' i h e =
+    ap (λ (x : ℕ). set l' x 255) (sym (zero-add i)) ∙ wrote_one l l' 0 i (replicate i 255) 255 e (length-replicate {A = ℕ} i 255) (omega arith)
+    ∙ ap (splice l 0) (replicate-append-replicate {A = ℕ} i 1 255)
+
+pub fill_all : (l l' : List ℕ) (i : ℕ) → i ≡ length l → l' ≡ splice l 0 (replicate i 255) → l' ≡ replicate (length l) 255
+fill_all l l' i h e = e ∙ splice_all l (replicate i 255) (length-replicate {A = ℕ} i 255 ∙ h) ∙ ap (λ (n : ℕ). replicate {A = ℕ} n 255) h
 
 -- ---- one data position more of a stripe
 

@@ -1,14 +1,13 @@
 -- `survey`: the tally is of the stripes below base and, unless bad, no group there has a fault; one turn adds a group, the last one the rest. Assumes nothing.
-use mathlib.Core.Path.{◌≡◌, ap, ◌∙◌, subst}
+use mathlib.Core.Path.{◌≡◌, ◌∙◌, subst}
 use mathlib.Core.List.{List}
-use Prim.Native.Nat.{ℕ, ◌+◌, ◌≤◌}
+use Prim.Native.Nat.{ℕ, ◌+◌, min, ◌≤◌}
 use native.Mathlib.Omega.{arith}
 use Rattle.spec.specs.Drives.{View, view_of}
 use Rattle.spec.specs.Segments.{Segment, segment_of}
 use Rattle.law_basic.specs.Geometry.{ranged, base_next}
-use Rattle.recover_groups.specs.Bases.{group_len_whole, group_len_last}
 use Rattle.recover_groups.specs.Groups.{group_len}
-use Rattle.recover_survey.specs.Stripes.{Tallied, tallied_none, surveyed, groups_left_lem, faults_start, groups_ended}
+use Rattle.recover_survey.specs.Stripes.{Tallied, tallied_none, surveyed, group_next, groups_left_lem, faults_start, groups_ended}
 use native.Mathlib.Nat.{zero-mod}
 use Rattle.recover_survey.proofs.survey.Goals as goal
 
@@ -53,7 +52,7 @@ loop-base-preserved c =
     let h = c.requires in
     let p = a.p in
     let g : List ℕ → Segment = λ off. segment_of p (view_of p off a.image.now a.pointers.now) a.gone a.seg in
-    let e : l.base + group_len p l.base ≡ l.base + p.G = ap (λ (x : ℕ). l.base + x) (group_len_whole p l.base (omega arith)) in (
+    let e : l.base + group_len p l.base ≡ l.base + p.G = group_next p l.base l.invariant.1 ∙ (let m : min (l.base + p.G) p.S ≡ l.base + p.G = omega arith in m) in (
       y.auto.at ∙ l.invariant.0,
       omega arith,
       base_next l.base p.G l.invariant.2,
@@ -75,7 +74,7 @@ returns-2 c =
     let p = a.p in
     let g : List ℕ → Segment = λ off. segment_of p (view_of p off a.image.now a.pointers.now) a.gone a.seg in
     let r = ranged p c.requires.p_value in
-    let e : l.base + group_len p l.base ≡ p.S = group_len_last p l.base (omega (arith, l.invariant.1)) (omega arith) in
+    let e : l.base + group_len p l.base ≡ p.S = group_next p l.base l.invariant.1 ∙ (let m : min (l.base + p.G) p.S ≡ p.S = omega arith in m) in
     λ off full. surveyed p a.gone (g off) y.result (subst (λ (x : ℕ). Tallied p a.gone (g off) x y.result) e (y.ensures.by_index_2 off full (l.invariant.6 off full)))
     (groups_ended p a.gone (g off) (l.base + p.G) y.result.bad r.group-low (omega arith)
     (λ q. let w = y.ensures.by_index off full q in groups_left_lem p a.gone (g off) l.base r.group-low l.invariant.1 w.1 ∙ l.invariant.5 off full w.0))
