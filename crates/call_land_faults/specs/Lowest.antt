@@ -37,6 +37,21 @@ unfolding least
 least-append n [] m = refl
 least-append n (k ∷ l) m = least-append (min n k) l m
 
+-- one zone more, of which w is the least so far
+pub least_lower : (w z Z : ℕ) (l : List ℕ) → z < w → w ≤ Z → least w (cons_if (ltb z Z) z [] ++ l) ≡ least z l
+unfolding least cons_if
+least_lower w z Z l h g =
+    let e : min w z ≡ z = omega arith in
+    ap (λ (x : Bool). least w (cons_if x z [] ++ l)) (lt-ltb z Z (omega arith)) ∙ ap (λ (x : ℕ). least x l) e
+
+same_if : (b : Bool) (w z : ℕ) (l : List ℕ) → w ≤ z → least w (cons_if b z [] ++ l) ≡ least w l
+unfolding least cons_if
+same_if true w z l h = let e : min w z ≡ w = omega arith in ap (λ (x : ℕ). least x l) e
+same_if false w z l h = refl
+
+pub least_same : (w z Z : ℕ) (l : List ℕ) → w ≤ z → least w (cons_if (ltb z Z) z [] ++ l) ≡ least w l
+least_same w z Z l h = same_if (ltb z Z) w z l h
+
 -- 01, Refusals, 9: refused where the least is one of a zone
 pub lowest_refused : (Z : ℕ) (zs : List ℕ) → all (λ z. ltb z Z) zs ≡ true → first_refusal (zones (cons_if (ltb (least Z zs) Z) (least Z zs) []) ∷ []) ≡ first_refusal (zones zs ∷ [])
 unfolding first_refusal ninth least cons_if
@@ -234,6 +249,16 @@ module _ (f : ℕ → List ℕ) where
   unfolding least flat
   faults_end w k n h = ap (λ (x : List ℕ). least w (flat f x)) (up_from_end k n h)
 
+-- number k's zone, if it has one: lower than all so far, or not
+module _ (Z : ℕ) (f : ℕ → List ℕ) where
+  pub faults_lower : (w z k n : ℕ) → k < n → f k ≡ cons_if (ltb z Z) z [] → z < w → w ≤ Z → least z (faults_from f (k + 1) n) ≡ least w (faults_from f k n)
+  faults_lower w z k n h e l g =
+      sym (ap (least w) (faults_step f k n h ∙ ap (λ (x : List ℕ). x ++ faults_from f (k + 1) n) e) ∙ least_lower w z Z (faults_from f (k + 1) n) l g)
+
+  pub faults_same : (w z k n : ℕ) → k < n → f k ≡ cons_if (ltb z Z) z [] → w ≤ z → least w (faults_from f (k + 1) n) ≡ least w (faults_from f k n)
+  faults_same w z k n h e l =
+      sym (ap (least w) (faults_step f k n h ∙ ap (λ (x : List ℕ). x ++ faults_from f (k + 1) n) e) ∙ least_same w z Z (faults_from f (k + 1) n) l)
+
 -- the entries of a stripe
 pub entries_by : (p : Params) (v : View) (tb : List ℕ) (st : State) (i : ℕ)
     → flat (λ k. entry_faults p v tb (entry_in_of st i k)) (below (filled_in_of st i)) ≡ flat (entry_faults p v tb) (entries_in st i)
@@ -250,6 +275,13 @@ module _ (Z z : ℕ) (hz : z < Z) where
   pub fine_lowest : Z ≡ least Z (cons_if false z [])
   unfolding least cons_if
   fine_lowest = refl
+
+  pub bad_named : cons_if true z [] ≡ cons_if (ltb z Z) z []
+  bad_named = ap (λ (x : Bool). cons_if x z []) (sym (lt-ltb z Z hz))
+
+pub nbad_named : (Z z : ℕ) → cons_if false z [] ≡ cons_if (ltb Z Z) Z []
+unfolding cons_if
+nbad_named Z z = sym (ap (λ (x : Bool). cons_if x Z []) (le-ltb Z Z (omega arith)))
 
 -- ---- the open segment, then the entries
 

@@ -3,6 +3,7 @@ use Rattle.std.specs.Prelude.{◌≡◌, List, Bool, true, false, ◌&&◌, ℕ,
 use Rattle.std.proofs.Math.Path.{sym, ap}
 use Rattle.std.proofs.Common.{◌∙◌, arith}
 use Rattle.std.proofs.Math.Bool.{not}
+use Rattle.std.proofs.Math.Dec.{eqb}
 use Rattle.spec.specs.declared.Params.{Params}
 use Rattle.spec.specs.Bytes.{part}
 use Rattle.spec.specs.Drives.{View, view_of, mk_disk, zone_at, chunk_at, zone_on, sealed_in, record_in, record_at}
@@ -13,7 +14,7 @@ use Rattle.spec.specs.Params.{in_range, unit_len, image_len, pointers_len, place
 use Rattle.spec.specs.Parity.{Piece, decode_block, decode_piece}
 use Rattle.spec.specs.Read.{shown, stored_at, decoded_at}
 use Rattle.law_basic.specs.Geometry.{ranged, data_below}
-use Rattle.law_basic.specs.Ranges.{any-map}
+use Rattle.law_basic.specs.Ranges.{any-map, any_false}
 use Rattle.law_code.specs.Code.{decode_apart, decode_block_same, decode_same}
 use Rattle.disk_code.specs.Folds.{PartsWithin}
 use Rattle.law_views.specs.Views.{block_view}
@@ -40,6 +41,10 @@ pub record ShownBy (p : Params) (v : View) (gone : ℕ) (cs : List ℕ) (g : Seg
 abbrev pub ShownAll : Params → View → ℕ → List ℕ → Seg → ℕ → Option (List ℕ) → Type 0
 ShownAll p v gone cs g s o = MatchOption o (any (hides p v gone cs g s) (below p.N) ≡ true) (ShownBy p v gone cs g s)
 
+-- the same by the offsets, S where a drive does not show it
+abbrev pub any_hidden : Params → List ℕ → Bool
+any_hidden p at = any (λ d. eqb (get_or at d 0) p.S) (below p.N)
+
 -- the offsets are data offsets
 pub record OffsetsLow (p : Params) (at : List ℕ) : Type 0 where
   pub long : length at ≡ 8
@@ -61,6 +66,11 @@ module _ (p : Params) (v : View) (gone : ℕ) (cs : List ℕ) (g : Seg) (s : ℕ
 
     pub data_offsets : OffsetsLow p at
     data_offsets = record { long = h.long; low = λ d l. (h.shows d l).low }
+
+    module _ (none! : any_hidden p at ≡ false) where
+      unhidden : (d : ℕ) → d < p.N → eqb (get_or at d 0) p.S ≡ false
+      unfolding below
+      unhidden d l = any_false (λ d. eqb (get_or at d 0) p.S) 0 p.N d none! (omega arith) (omega arith)
 
     shows_it : (d : ℕ) → d < p.N → is_in gone d ≡ false → is_nil (shown_at p v cs d (zone_on g d) s) ≡ false
     shows_it d l n = sym (ap (λ (x : Bool). not x && is_nil (shown_at p v cs d (zone_on g d) s)) n) ∙ sym (h.shows d l).hidden

@@ -1,7 +1,7 @@
 -- A place with no fault is a data block of the image; its bytes (01, Read; Refusals, 9). Assumes nothing.
 use Rattle.std.specs.Prelude.{◌≡◌, List, [], ◌∷◌, Bool, true, false, cond, ℕ, ◌+◌, ◌-◌, ◌/◌, ◌≤◌, ◌<◌, ltb, eqb}
 use Rattle.std.proofs.Math.Path.{sym, ap, ap₂}
-use Rattle.std.proofs.Common.{◌∙◌, subst, arith, lt-ltb}
+use Rattle.std.proofs.Common.{◌∙◌, subst, arith, lt-ltb, le-ltb}
 use Rattle.std.proofs.Math.Nat.{mod-lt}
 use Rattle.spec.specs.declared.Params.{Params}
 use Rattle.spec.specs.Bytes.{part}
@@ -64,6 +64,10 @@ lies_sorted p gone tb a = go (place_at_of tb a) (eqb (place_at_of tb a) never_pl
 pub zone_there : (z n : ℕ) → z < n → cons_if (ltb z n) z [] ≡ z ∷ []
 unfolding cons_if
 zone_there z n h = ap (λ (x : Bool). cons_if x z []) (lt-ltb z n h)
+
+pub zone_absent : (z n : ℕ) → n ≤ z → cons_if (ltb z n) z [] ≡ []
+unfolding cons_if
+zone_absent z n h = ap (λ (x : Bool). cons_if x z []) (le-ltb z n h)
 
 -- the place's bytes
 module _ (p : Params) (q : ℕ) (ok : in_range p ≡ true) (h : DataPlace p q) where

@@ -97,6 +97,9 @@ module _ (p : Params) (off im ps : List ℕ) (gone : ℕ) (cs : List ℕ) (q : P
 
   -- with the offsets at which the table shows it
   module _ (at : List ℕ) (h : ShownBy p (view_of p off im ps) gone cs g s at) where
+    shown-at_place : ShownBy p v gone cs g stripe at
+    shown-at_place = subst (λ (x : ℕ). ShownBy p v gone cs g x at) es h
+
     lost_record : decode_rec p gone s d (λ e. record_at p v gone e g (get_or at e 0)) ≡ (decode_piece p gone stripe (place_drive p q.0) (λ e. stored_at p v gone e g (get_or at e 0))).rec
     unfolding stored_at
     lost_record =
@@ -109,8 +112,7 @@ module _ (p : Params) (off im ps : List ℕ) (gone : ℕ) (cs : List ℕ) (q : P
         → Seeks p im (view_of p off im ps) gone cs (away q.0) (Ok (Away q r.stamp)) bs
     unfolding cons_if read_piece
     seeks_shown n bs k r f =
-        let h' = subst (λ (x : ℕ). ShownBy p v gone cs g x at) es h in
-        let w = ap (λ (x : Seg). decoded_at p v gone cs (place_drive p q.0) x stripe) eg ∙ decodes_from p v gone cs g stripe at h' (place_drive p q.0) in (
+        let w = ap (λ (x : Seg). decoded_at p v gone cs (place_drive p q.0) x stripe) eg ∙ decodes_from p v gone cs g stripe at shown-at_place (place_drive p q.0) in (
           nothing_hidden ∙ sym (ap (λ (x : List ℕ). first_refusal (zones x ∷ [])) (lost_faults (place_zone p q.0) refl false (hidden_none p v gone cs g s at h))),
           (
             refl,

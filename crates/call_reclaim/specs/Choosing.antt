@@ -83,7 +83,7 @@ module _ (p : Params) (off : List ℕ) (k : Disk) (m : Memory) where
   unfolding reclaim_checks_in
   reclaim_lengths_fail e = rule_fails 2 (not (lent_ok_of p off k m)) (rest 1) (ap not e)
 
-  reclaim_lengths_pass : lent_ok_of p off k m ≡ true → reclaim_from 1 ≡ reclaim_from 2
+  pub reclaim_lengths_pass : lent_ok_of p off k m ≡ true → reclaim_from 1 ≡ reclaim_from 2
   unfolding reclaim_checks_in
   reclaim_lengths_pass e = rule_passes 2 (not (lent_ok_of p off k m)) (rest 1) (ap not e)
 
@@ -92,7 +92,7 @@ module _ (p : Params) (off : List ℕ) (k : Disk) (m : Memory) where
   unfolding reclaim_checks_in view_of
   reclaim_list_fails r e = sym (list_fails p (seen p off k) (rest 3) r e)
 
-  reclaim_list_passes : none ≡ list_rule_of p off → reclaim_from 2 ≡ reclaim_from 4
+  pub reclaim_list_passes : none ≡ list_rule_of p off → reclaim_from 2 ≡ reclaim_from 4
   unfolding reclaim_checks_in view_of
   reclaim_list_passes e = list_passes p (seen p off k) (rest 3) e
 
@@ -243,6 +243,12 @@ pub length_some : {A : Type 0} (l : List A) → 0 < length l → is_nil l ≡ fa
 unfolding is_nil
 length_some [] h = absurd (let q : ⊥ = omega arith in q)
 length_some (a ∷ l) h = refl
+
+-- the first of a list, whatever stands for none
+pub first_found : (l : List ℕ) (d x : ℕ) → first_or d l ≡ x → (x ≡ d → ⊥) → first_or 0 l ≡ x
+unfolding first_or
+first_found [] d x e n = absurd (n (sym e))
+first_found (y ∷ l) d x e n = e
 
 pub no_zones : first_refusal (zones [] ∷ []) ≡ none
 no_zones = zones_pass [] [] refl ∙ none_left

@@ -1,7 +1,8 @@
 -- The first live block that is not in flight, place after place (01, Reclaim). Assumes nothing.
 use Rattle.std.specs.Option.{option_or, is_some}
-use Rattle.std.specs.Prelude.{Option, Some, None, option_map, unwrap_or, ℕ, ◌+◌, ◌-◌, ◌*◌, min, ◌≤◌, ◌<◌, leb, ltb, Bool, not, ◌&&◌, ◌≡◌}
+use Rattle.std.specs.Prelude.{Option, Some, None, option_map, unwrap_or, ℕ, suc, ◌+◌, ◌-◌, ◌*◌, min, ◌≤◌, ◌<◌, leb, ltb, eqb, length, Bool, not, ◌&&◌, ◌≡◌}
 use Rattle.call_reclaim_live.specs.Live.{drive_low, in_seg, is_live_in, live_below, keep_nobody, live_more, keep_single, live_split}
+use Rattle.spec.specs.Counts.{never_place}
 use Rattle.spec.specs.Drives.{View, record_at}
 use Rattle.spec.specs.Layout.{Rec}
 use Rattle.spec.specs.Lists.{up_from, below, cons_if, keep, is_nil, least, first_or}
@@ -20,7 +21,7 @@ use Rattle.law_drives.specs.Members.{In, keep_in, below_in, keep-nil_in}
 use Rattle.disk_stored.specs.Places.{DataPlace, data_place}
 use Rattle.mem_marks.specs.Marks.{is_marked, is_pointed, Marks}
 use Rattle.call_reclaim_victim.specs.declared.Idle.{Idle}
-use Rattle.std.proofs.Common.{le-leb, lt-ltb, le-ltb, inl, ◌∙◌, subst, arith}
+use Rattle.std.proofs.Common.{le-leb, lt-ltb, le-ltb, eq-eqb, ne_eqb, inl, ◌∙◌, subst, arith}
 use Rattle.std.proofs.lemmas.Bool.{lt-leb, not-true, not-false}
 use Rattle.std.proofs.Math.Bool.{true, false, cond, and-false}
 use mathlib.Core.List.{List, [], ◌∷◌, ◌++◌, map, append-nil}
@@ -54,9 +55,13 @@ pub number_other : (a : Option Place) (x : Option ℕ) → is_some a ≡ false �
 number_other None x e = refl
 number_other (Some q) x e = true_false e
 
-pub place_none : (a : Option Place) → is_some a ≡ false → place_number a ≡ None
-place_none None e = refl
-place_none (Some q) e = true_false e
+pub number_absent : (a : Option Place) → is_some a ≡ false → place_number a ≡ None
+number_absent None e = refl
+number_absent (Some q) e = true_false e
+
+-- the first place, or the second where the first is never written
+unfoldable pub or_else : ℕ → ℕ → ℕ
+or_else a b = cond (eqb a never_place) b a
 
 -- the least of a list, if there is one
 unfoldable pub lowest : List ℕ → Option ℕ
@@ -106,6 +111,35 @@ foremost_some (x ∷ l) q e = let k : x ≡ q = ap (λ (o : Option ℕ). unwrap_
 pub foremost_held : (l : List ℕ) (a : Option Place) → place_number a ≡ foremost l → is_some a ≡ true → is_nil l ≡ false
 foremost_held l None e h = false_true h
 foremost_held l (Some q) e h = (foremost_some l q.0 (sym e)).0
+
+-- the same where a place that is never written stands for none
+pub else_first : (a b : ℕ) → a ≡ never_place → or_else a b ≡ b
+unfolding or_else
+else_first a b e = ap (λ (x : Bool). cond x b a) (eq-eqb a never_place e)
+
+pub else_kept : (a b : ℕ) → (a ≡ never_place → ⊥) → or_else a b ≡ a
+unfolding or_else
+else_kept a b n = ap (λ (x : Bool). cond x b a) (ne_eqb a never_place n)
+
+cons-nil : (x : ℕ) (l : List ℕ) → ◌≡◌ {A = List ℕ} (x ∷ l) [] → ⊥
+cons-nil x l e = let q : suc (length l) ≡ 0 = ap length e in omega (arith, q)
+
+pub nil_first : (l : List ℕ) → (first_or never_place l ≡ never_place → l ≡ []) → is_nil l ≡ eqb (first_or never_place l) never_place
+unfolding first_or is_nil
+nil_first [] h = refl
+nil_first (x ∷ l) h = sym (ne_eqb x never_place (λ e. cons-nil x l (h e)))
+
+-- of numbers below d, the first is d just if there is none
+pub none_first : (l : List ℕ) (d : ℕ) → ((a : ℕ) → In a l → a < d) → first_or d l ≡ d → l ≡ []
+unfolding first_or
+none_first [] d h e = refl
+none_first (x ∷ l) d h e = absurd (let q : ⊥ = omega (arith, e, h x (inl refl)) in q)
+
+-- and else it is one of them
+pub waiting_some_first : (l : List ℕ) (d : ℕ) → (first_or d l ≡ d → ⊥) → In (first_or d l) l
+unfolding first_or
+waiting_some_first [] d n = absurd (n refl)
+waiting_some_first (x ∷ l) d n = inl refl
 
 -- ---- the lowest zone
 
@@ -164,6 +198,9 @@ module _ (p : Params) (v : View) (st : State) (h : Seg) (tb : List ℕ) where
   waiting_live_in n q m =
       let (i, e) = keep_in (is_live_in p tb (in_seg p h)) (below n) q m in
       (below_in n q i, and_left (in_seg p h q) (is_pointed tb p.L q) e)
+
+  pub waiting-nil : (n : ℕ) → n ≤ never_place → first_or never_place (keep free (live n)) ≡ never_place → keep free (live n) ≡ []
+  waiting-nil n k e = none_first (keep free (live n)) never_place (λ q m. omega (arith, k, (waiting_live_in n q (keep_in free (live n) q m).0).0)) e
 
   -- where there is one: a live block of the segment
   pub waiting-found : (n q : ℕ) → foremost (keep free (live n)) ≡ Some q → (q < n) × (in_seg p h q ≡ true) × (odd_zone p (live n) ≡ None → is_odd p q ≡ false)
@@ -255,6 +292,21 @@ module _ (p : Params) (v : View) (st : State) (h : Seg) (i : Idle) (q : ℕ) whe
   pub step_even : is_odd p q ≡ false → (r : Idle) → place_number r.first ≡ option_or (place_number i.first) (cond (flying_in p v st h q) None (Some q)) → r.odd ≡ i.odd
       → IdleStepped p v st h i q r
   step_even o r e f = record { first = e; odd = f ∙ same_odd o }
+
+  module _ (o : is_odd p q ≡ false) where
+    -- there is one already
+    pub step_kept : is_some i.first ≡ true → IdleStepped p v st h i q i
+    step_kept n = step_even o i (number_kept i.first (cond (flying_in p v st h q) None (Some q)) n) refl
+
+    -- it is in flight
+    pub step-flying : is_some i.first ≡ false → flying_in p v st h q ≡ true → IdleStepped p v st h i q i
+    step-flying e f =
+        step_even o i (number_absent i.first e ∙ sym (number_other i.first (cond (flying_in p v st h q) None (Some q)) e ∙ ap (λ (x : Bool). cond x None (Some q)) f)) refl
+
+    -- it is the first
+    pub step_new : is_some i.first ≡ false → flying_in p v st h q ≡ false → (r : Idle) → place_number r.first ≡ Some q → r.odd ≡ i.odd → IdleStepped p v st h i q r
+    step_new e f r a b =
+        step_even o r (a ∙ sym (number_other i.first (cond (flying_in p v st h q) None (Some q)) e ∙ ap (λ (x : Bool). cond x None (Some q)) f)) b
 
 -- ---- a zone by its marks
 

@@ -5,7 +5,7 @@ use Rattle.spec.specs.Lists.{cons_if, is_nil}
 use Rattle.spec.specs.Memory.{state_of}
 use Rattle.spec.specs.Reclaim.{victim, idle}
 use Rattle.call_reclaim_victim.specs.Outside.{outside_told}
-use Rattle.call_reclaim_victim.specs.Waiting.{place_none, foremost_none, foremost_held}
+use Rattle.call_reclaim_victim.specs.Waiting.{number_absent, foremost_none, foremost_held}
 use mathlib.Core.Bool.{Bool, false, not}
 use mathlib.Core.List.{[]}
 use mathlib.Core.Path.{◌≡◌, sym, ap, ◌∙◌}
@@ -20,7 +20,7 @@ returns-then-is_some c =
 -- no block of the segment is left
 nothing_left : (c : Else-is_some) → let a = c.args in let v = viewed a.drives.now in
     not (is_nil (idle a.drives.now.p v (state_of a.bytes.now) (victim a.drives.now.p v a.addresses.now))) ≡ false
-nothing_left c = ap not (foremost_none _ (sym c.look-seen.ensures.first ∙ place_none c.look-seen.result.first (sym c.is_some.ensures ∙ c.if-is_some.false)))
+nothing_left c = ap not (foremost_none _ (sym c.look-seen.ensures.first ∙ number_absent c.look-seen.result.first (sym c.is_some.ensures ∙ c.if-is_some.false)))
 
 pub returns-then-not-state_ok : goal.returns-then-not-state_ok
 returns-then-not-state_ok c =
