@@ -1,6 +1,7 @@
 #!/usr/bin/env python3
 """tools/design_changes.py COMMIT: what docs/DESIGN-PASS.md lists: each public function and type of the code that has another signature or other clauses than at COMMIT, old and new,
-functions and definitions that are gone, and definitions and laws of specs/ with other texts. By text; proofs are not looked at."""
+functions and definitions that are gone, definitions and laws of specs/ with other texts or in a section with another head, and laws that are public no more. By text; proofs and names inside
+a `where` are not looked at."""
 import re
 import subprocess
 import sys
@@ -33,23 +34,35 @@ def heads(files):
     return out
 
 
+DECLARES = r"((?:(?:unfoldable|abbrev|pub|opaque) )*)(?:record )?([^\s:(){}]+)(?: \([^\n]*)? : "
+
+
 def declared(files):
-    """(crate, module, name) to the text of its declaration"""
+    """(crate, module, name) to whether it is public, the heads of the sections around it, and the text of its declaration"""
     out = {}
     for n, t in files.items():
         crate, module = n.split("/")[1], n.split("/")[-1][:-5]
         lines = t.split("\n")
-        i = 0
+        sections, i = [], 0
         while i < len(lines):
-            m = re.match(r"( *)(?:(?:unfoldable|abbrev|pub|opaque) )*(?:record )?([^\s:(){}]+)(?: \([^\n]*)? : ", lines[i])
-            if m and not lines[i].lstrip().startswith(("--", "use ", "module ")):
-                j = i + 1
-                while j < len(lines) and lines[j].strip() and not re.match(r"%s(?:(?:unfoldable|abbrev|pub|opaque) )*[^\s:(){}]+ : " % m.group(1), lines[j]):
-                    j += 1
-                out.setdefault((crate, module, m.group(2)), flat("\n".join(lines[i:j])))
-                i = j
-            else:
+            line, deep = lines[i].lstrip(), len(lines[i]) - len(lines[i].lstrip())
+            if not line or line.startswith(("--", "use ")):
                 i += 1
+                continue
+            while sections and sections[-1][0] >= deep:
+                sections.pop()
+            level = sections[-1][0] + 2 if sections else 0
+            m = re.match(DECLARES, line)
+            j = i + 1
+            if deep == level and line.startswith("module "):
+                while not lines[j - 1].endswith("where"):
+                    j += 1
+                sections.append((deep, flat("\n".join(lines[i:j]))[len("module _ "):-len(" where")]))
+            elif deep == level and m:
+                while j < len(lines) and lines[j].strip() and not re.match(" " * deep + DECLARES, lines[j]):
+                    j += 1
+                out.setdefault((crate, module, m.group(2)), ("pub" in m.group(1), " ".join(s for _, s in sections), flat("\n".join(lines[i:j]))))
+            i = j
     return out
 
 
@@ -79,16 +92,23 @@ def main():
     print("### Functions of a crate alone that are gone\n")
     print(", ".join("`%s::%s`" % k for k in sorted(old) if k not in new and not old[k][0]) + "\n")
     old, new = declared(listed(commit, r"crates/\w+/specs/.*\.antt")), declared(listed(None, r"crates/\w+/specs/.*\.antt"))
-    short = {}
-    for (c, m, n), t in new.items():
-        short.setdefault((c, n), t)
+    moved = {(c, n): d for (c, m, n), d in new.items() if d[0]}
+    now = {k: new.get(k, moved.get((k[0], k[2]))) for k in old}
     print("### Definitions and laws of specs/ that are gone\n")
-    print(", ".join("`%s: %s`" % (c, n) for (c, m, n) in sorted(old) if (c, n) not in short) + "\n")
+    print(", ".join("`%s: %s`" % (c, n) for (c, m, n) in sorted(old) if not now[(c, m, n)]) + "\n")
+    print("### Laws that are public no more\n")
+    print((", ".join("`%s: %s`" % (c, n) for (c, m, n) in sorted(old) if now[(c, m, n)] and old[(c, m, n)][0] and not now[(c, m, n)][0]) or "None.") + "\n")
+    print("### Public laws whose section has another head\n")
+    for (c, m, n) in sorted(old):
+        (shown, around, _), d = old[(c, m, n)], now[(c, m, n)]
+        if shown and d and around != d[1]:
+            print("`%s: %s`" % (c, n))
+            print("- old: `%s`" % around if around else "- old: none")
+            print("- new: `%s`\n" % d[1] if d[1] else "- new: none\n")
     print("### Definitions and laws of specs/ with another text\n")
     for (c, m, n) in sorted(old):
-        t = new.get((c, m, n), short.get((c, n)))
-        if t and t != old[(c, m, n)]:
-            a, b = old[(c, m, n)], t
+        if now[(c, m, n)] and now[(c, m, n)][2] != old[(c, m, n)][2]:
+            a, b = old[(c, m, n)][2], now[(c, m, n)][2]
             sa, sb = re.split(r" (?=(?:unfolding )?%s [^:]*=)| (?=%s =)" % (re.escape(n), re.escape(n)), a)[0], re.split(r" (?=(?:unfolding )?%s [^:]*=)| (?=%s =)" % (re.escape(n), re.escape(n)), b)[0]
             if sa == sb and ("≡" in sa or "→" in sa) and not re.match(r"(?:unfoldable|abbrev)", a):
                 continue
